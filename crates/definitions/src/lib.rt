@@ -1,0 +1,97 @@
+// The public types: what a customer asks with, and what each call answers. No functions.
+
+// Where a page begins: at the start of the ranked list, or after the pair (p, q).
+pub enum Position {
+    Start,
+    After(u32, u32),
+}
+
+// A request for a page: the degree, the top dimension T and the position.
+pub struct PageRequest {
+    pub degree: u32,
+    pub top: u32,
+    pub position: Position,
+}
+
+// Why a call refuses. `specs/Answers.antt` gives each its number.
+pub enum Refusal {
+    WrongDegree,
+    WrongDimension,
+    IllFormedPair,
+    NotPrimitive,
+    QuotientNotLinear,
+    StepNotCoprime,
+    ShortSlice,
+    BeyondPeriod,
+    IllFormedCatalogue,
+    DegreeMissing,
+}
+
+// Judging a pair: its step.
+pub enum Judgement {
+    Accepted(u32),
+    Rejected(Refusal),
+}
+
+// A single t-value.
+pub enum Uniformity {
+    Value(u32),
+    Undefined(Refusal),
+}
+
+// A page: how many rows were written, and whether a further row exists.
+pub enum PageAnswer {
+    Page(usize, bool),
+    NoPage(Refusal),
+}
+
+// Points: how many words were written.
+pub enum PointsAnswer {
+    Written(usize),
+    NotWritten(Refusal),
+}
+
+// Opening a catalogue: how many degrees it has.
+pub enum Opening {
+    Entries(u32),
+    Closed(Refusal),
+}
+
+// A lookup's numbers: the top dimension and the row count of a degree's body.
+pub enum Lookup {
+    Body(u32, u32),
+    NoBody(Refusal),
+}
+
+// A row of a catalogue: the pair, its step and t(3) .. t(8), 0 above the body's top dimension.
+pub struct Row {
+    pub p: u32,
+    pub q: u32,
+    pub step: u32,
+    pub t3: u32,
+    pub t4: u32,
+    pub t5: u32,
+    pub t6: u32,
+    pub t7: u32,
+    pub t8: u32,
+}
+
+// What a reader hands out: the next row, or that it is at the end.
+pub enum NextRow {
+    Found(Row),
+    End,
+}
+
+// A catalogue's reader: the lent body, its degree and top dimension, and the place of the next row.
+pub struct Reader<'a> {
+    pub body: &'a [u8],
+    pub degree: u32,
+    pub top: u32,
+    pub place: usize,
+}
+
+// The line that the listing reads: degree, top dimension and page size.
+pub enum Line {
+    Asked(u32, u32, u32),
+    Unreadable,
+}
