@@ -1,0 +1,156 @@
+-- Long division by b, of degree m. The remainder of 2a + c is the remainder of a with c brought down and the coefficient at x^m cleared
+-- by b. Clearing is additive, so remainder and quotient are too, by induction on digits; both are exact for a of a smaller degree.
+-- Assumes nothing.
+use mathlib.Core.Path.{_≡_, refl, sym, ap, _∙_, subst}
+use Prim.Native.Nat.{ℕ, zero, suc, _+_, _*_, _/_, _%_, _^_, _≤_, _<_}
+use native.Mathlib.Nat.{div-eq-of-lt-le, zero-add, zero-mul, one-mul, zero-div, div-lt-iff-lt-mul, div-eq-of-lt, add-zero}
+use native.Mathlib.Omega.{arith}
+use lib.Pow.{pow-pos}
+use Rattle.definitions.specs.Polynomial.{_⊕_, degree, byDigits, byDigitsWithin, Division, bringDown, divide, rem, quot, clear}
+use Rattle.polynomial_laws.specs.Sum.{digit-ind, by-digit, digit-cases, halves, zero-⊕, ⊕-bit, ⊕-zero, ⊕-self, ⊕-shr, ⊕-mul-digit, ⊕-swap, ⊕-digit}
+use Rattle.polynomial_laws.specs.Degree.{HasDegree, degree-is}
+
+module _ {X : Type 0} (z : X) (g : ℕ → X → X) where
+  byDigitsWithin-any : (f k a : ℕ) → a ≤ f → a ≤ k → byDigitsWithin z g f a ≡ byDigitsWithin z g k a
+  unfolding byDigitsWithin
+  byDigitsWithin-any zero zero zero h l = refl
+  byDigitsWithin-any zero (suc k) zero h l = refl
+  byDigitsWithin-any (suc f) zero zero h l = refl
+  byDigitsWithin-any (suc f) (suc k) zero h l = refl
+  byDigitsWithin-any zero k (suc a) h l = absurd (omega arith)
+  byDigitsWithin-any (suc f) zero (suc a) h l = absurd (omega arith)
+  byDigitsWithin-any (suc f) (suc k) (suc a) h l = ap (g (suc a % 2)) (byDigitsWithin-any f k (suc a / 2) (omega arith) (omega arith))
+
+  pub byDigits-zero : byDigits z g 0 ≡ z
+  unfolding byDigits
+  byDigits-zero = refl
+
+  byDigits-step : g 0 z ≡ z → (n : ℕ) → byDigits z g n ≡ g (n % 2) (byDigits z g (n / 2))
+  unfolding byDigits
+  byDigits-step e zero = sym e
+  byDigits-step e (suc n) = ap (g (suc n % 2)) (byDigitsWithin-any n (suc n / 2) (suc n / 2) (omega arith) (omega arith))
+
+  -- THE law of byDigits
+  pub byDigits-digit : g 0 z ≡ z → (a c : ℕ) → c < 2 → byDigits z g (2 * a + c) ≡ g c (byDigits z g a)
+  byDigits-digit e a c h =
+      let q : (2 * a + c) / 2 ≡ a = omega arith in
+      let r : (2 * a + c) % 2 ≡ c = omega arith in
+      byDigits-step e (2 * a + c) ∙ rw (q, r)
+
+lt-of-shr : (k x : ℕ) → x / 2 ^ k ≡ 0 → x < 2 ^ k
+lt-of-shr k x e = omega (arith, div-lt-iff-lt-mul {x = x} {y = 1} (pow-pos k) .0 (omega arith))
+
+pub clear-def : (m b r : ℕ) → clear m b r ≡ r ⊕ r / 2 ^ m * b
+unfolding clear
+clear-def m b r = refl
+
+-- A residue of p times x.
+unfoldable pub timesX : ℕ → ℕ → ℕ
+unfolding clear degree
+timesX p r = clear (degree p) p (2 * r)
+
+pub timesX-def : (b r : ℕ) → timesX b r ≡ clear (degree b) b (2 * r)
+unfolding timesX
+timesX-def b r = refl
+
+-- ---- clearing the coefficient at x^m by b of degree m
+module _ (m b : ℕ) (hb : HasDegree b m) where
+  top : b / 2 ^ m ≡ 1
+  top = div-eq-of-lt-le (2 ^ m) (omega (arith, hb .least)) (omega (arith, hb .most))
+
+  digit-top : (t : ℕ) → t < 2 → t * b / 2 ^ m ≡ t
+  digit-top = digit-cases (λ t. t * b / 2 ^ m ≡ t) (rw (zero-mul b, zero-div (2 ^ m))) (rw (one-mul b) top)
+
+  is-digit : (r : ℕ) → r < 2 * 2 ^ m → r / 2 ^ m < 2
+  is-digit r h = div-lt-iff-lt-mul (pow-pos m) .1 h
+
+  clear-lt : (r : ℕ) → r < 2 * 2 ^ m → clear m b r < 2 ^ m
+  unfolding clear
+  clear-lt r h =
+      lt-of-shr m (r ⊕ r / 2 ^ m * b) (rw (⊕-shr, digit-top (r / 2 ^ m) (is-digit r h), ⊕-self))
+
+  clear-small : (r : ℕ) → r < 2 ^ m → clear m b r ≡ r
+  unfolding clear
+  clear-small r h = rw (div-eq-of-lt h, zero-mul b, ⊕-zero r)
+
+  clear-zero : clear m b 0 ≡ 0
+  clear-zero = clear-small 0 (pow-pos m)
+
+  clear-self : clear m b b ≡ 0
+  unfolding clear
+  clear-self = rw (top, one-mul b, ⊕-self b)
+
+  clear-⊕ : (r s : ℕ) → r < 2 * 2 ^ m → s < 2 * 2 ^ m → clear m b (r ⊕ s) ≡ clear m b r ⊕ clear m b s
+  unfolding clear
+  clear-⊕ r s hr hs = rw (⊕-shr, ⊕-mul-digit (r / 2 ^ m) (s / 2 ^ m) b (is-digit r hr) (is-digit s hs)) (⊕-swap r s _ _)
+
+bringDown-zero : (m b : ℕ) → bringDown m b 0 (record { quotient = 0; remainder = 0 }) ≡ record { quotient = 0; remainder = 0 }
+unfolding bringDown clear
+bringDown-zero m b = rw (zero-div (2 ^ m), zero-mul b, ⊕-zero 0)
+
+divide-digit : (b a c : ℕ) → c < 2 → divide (2 * a + c) b ≡ bringDown (degree b) b c (divide a b)
+unfolding divide
+divide-digit b a c h = byDigits-digit (record { quotient = 0; remainder = 0 }) (bringDown (degree b) b) (bringDown-zero (degree b) b) a c h
+
+pub rem-digit : (b a c : ℕ) → c < 2 → rem (2 * a + c) b ≡ clear (degree b) b (2 * rem a b + c)
+unfolding rem bringDown
+rem-digit b a c h = ap (λ (d : Division). d .remainder) (divide-digit b a c h)
+
+pub quot-digit : (b a c : ℕ) → c < 2 → quot (2 * a + c) b ≡ 2 * quot a b + (2 * rem a b + c) / 2 ^ degree b
+unfolding quot rem bringDown
+quot-digit b a c h = ap (λ (d : Division). d .quotient) (divide-digit b a c h)
+
+pub rem-zero : (b : ℕ) → rem 0 b ≡ 0
+unfolding rem
+rem-zero b = refl
+
+pub quot-zero : (b : ℕ) → quot 0 b ≡ 0
+unfolding quot
+quot-zero b = refl
+
+-- ---- the laws, for b ≠ 0
+module _ (b : ℕ) (pos : 0 < b) where
+  hb : HasDegree b (degree b)
+  hb = degree-is b pos
+
+  pub rem-lt : (a : ℕ) → rem a b < 2 ^ degree b
+  rem-lt = digit-ind (λ a. rem a b < 2 ^ degree b) (rw rem-zero (pow-pos (degree b)))
+      (λ a c h ih. rw rem-digit (clear-lt (degree b) b hb (2 * rem a b + c) (omega arith)))
+
+  pub rem-small : (a : ℕ) → a < 2 ^ degree b → rem a b ≡ a
+  rem-small = digit-ind (λ a. a < 2 ^ degree b → rem a b ≡ a) (λ _. rem-zero b)
+      (λ a c h ih k. rw (rem-digit, ih (omega arith)) (clear-small (degree b) b hb (2 * a + c) k))
+
+  pub quot-small : (a : ℕ) → a < 2 ^ degree b → quot a b ≡ 0
+  quot-small = digit-ind (λ a. a < 2 ^ degree b → quot a b ≡ 0) (λ _. quot-zero b)
+      (λ a c h ih k. rw (quot-digit, ih (omega arith), rem-small a (omega arith), div-eq-of-lt k))
+
+  -- the remainder before the digit at the degree is cleared
+  two-rem : (a c : ℕ) → c < 2 → 2 * rem a b + c < 2 * 2 ^ degree b
+  two-rem a c h = omega (arith, rem-lt a)
+
+  pub next-digit : (a c : ℕ) → c < 2 → (2 * rem a b + c) / 2 ^ degree b < 2
+  next-digit a c h = is-digit (degree b) b hb (2 * rem a b + c) (two-rem a c h)
+
+  pub rem-⊕ : (a a′ : ℕ) → rem (a ⊕ a′) b ≡ rem a b ⊕ rem a′ b
+  rem-⊕ = digit-ind (λ a. (a′ : ℕ) → rem (a ⊕ a′) b ≡ rem a b ⊕ rem a′ b) (λ a′. simp (zero-⊕, rem-zero))
+      (λ a c h ih. by-digit (λ a′. rem ((2 * a + c) ⊕ a′) b ≡ rem (2 * a + c) b ⊕ rem a′ b)
+      λ a′ d k. simp (⊕-digit, ⊕-bit, rem-digit, ih) (rw (← ⊕-digit) (clear-⊕ (degree b) b hb _ _ (two-rem a c h) (two-rem a′ d k))))
+
+  pub quot-⊕ : (a a′ : ℕ) → quot (a ⊕ a′) b ≡ quot a b ⊕ quot a′ b
+  quot-⊕ = digit-ind (λ a. (a′ : ℕ) → quot (a ⊕ a′) b ≡ quot a b ⊕ quot a′ b) (λ a′. simp (zero-⊕, quot-zero))
+      (λ a c h ih. by-digit (λ a′. quot ((2 * a + c) ⊕ a′) b ≡ quot (2 * a + c) b ⊕ quot a′ b)
+      λ a′ d k. simp (⊕-digit, ⊕-bit, quot-digit, ih, next-digit, rem-⊕) (rw (← ⊕-digit (rem a b) (rem a′ b) c d, ⊕-shr)))
+
+  pub rem-double : (a : ℕ) → rem (2 * a) b ≡ timesX b (rem a b)
+  unfolding timesX
+  rem-double a = simp add-zero at (rem-digit b a 0 (omega arith))
+
+  pub rem-self : rem b b ≡ 0
+  rem-self = subst (λ x. rem x b ≡ 0) (halves b) (rw (rem-digit b (b / 2) (b % 2) (omega arith), rem-small (b / 2) (omega (arith, hb .most)), halves b) (clear-self (degree b) b hb))
+
+  pub quot-self : quot b b ≡ 1
+  quot-self = subst (λ x. quot x b ≡ 1) (halves b) (rw (quot-digit b (b / 2) (b % 2) (omega arith), quot-small (b / 2) (omega (arith, hb .most)), rem-small (b / 2) (omega (arith, hb .most)), halves b, zero-add) (top (degree b) b hb))
+
+  pub timesX-zero : timesX b 0 ≡ 0
+  timesX-zero = rw timesX-def (clear-zero (degree b) b hb)

@@ -1,0 +1,1 @@
+// Laws of binary polynomials; no functions.
