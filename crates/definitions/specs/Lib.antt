@@ -1,3 +1,11 @@
 -- Every definition of document 01, in the order in which they build on each other, and the starred examples.
 pub mod Number
 pub mod Polynomial
+pub mod Generator
+pub mod Points
+pub mod Net
+pub mod Pages
+pub mod Ranking
+pub mod Answers
+pub mod Calls
+pub mod Examples

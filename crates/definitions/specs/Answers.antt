@@ -1,0 +1,70 @@
+-- Refusals: their numbers, the situations in which they are given, and the values of each answer. Assumes nothing.
+use mathlib.Core.Bool.{Bool, true, false}
+use mathlib.Core.List.{List, [], _∷_}
+use Prim.Native.Nat.{ℕ}
+use Rattle.definitions.specs.Number.{bit}
+use Rattle.definitions.specs.declared.Refusal.{Refusal}
+use Rattle.definitions.specs.declared.Refusal.the-variants.{WrongDegree, WrongDimension, IllFormedPair, NotPrimitive, QuotientNotLinear, StepNotCoprime, ShortSlice, BeyondPeriod, IllFormedCatalogue, DegreeMissing}
+use Rattle.definitions.specs.declared.Judgement.{Judgement}
+use Rattle.definitions.specs.declared.Judgement.the-variants.{Accepted, Rejected}
+use Rattle.definitions.specs.declared.Uniformity.{Uniformity}
+use Rattle.definitions.specs.declared.Uniformity.the-variants.{Value, Undefined}
+use Rattle.definitions.specs.declared.PageAnswer.{PageAnswer}
+use Rattle.definitions.specs.declared.PageAnswer.the-variants.{Page, NoPage}
+use Rattle.definitions.specs.declared.PointsAnswer.{PointsAnswer}
+use Rattle.definitions.specs.declared.PointsAnswer.the-variants.{Written, NotWritten}
+use Rattle.definitions.specs.declared.Opening.{Opening}
+use Rattle.definitions.specs.declared.Opening.the-variants.{Entries, Closed}
+use Rattle.definitions.specs.declared.Lookup.{Lookup}
+use Rattle.definitions.specs.declared.Lookup.the-variants.{Body, NoBody}
+
+-- Document 01's number of each refusal.
+abbrev pub refusalNumber : Refusal → ℕ
+refusalNumber WrongDegree = 1
+refusalNumber WrongDimension = 2
+refusalNumber IllFormedPair = 3
+refusalNumber NotPrimitive = 4
+refusalNumber QuotientNotLinear = 5
+refusalNumber StepNotCoprime = 6
+refusalNumber ShortSlice = 7
+refusalNumber BeyondPeriod = 8
+refusalNumber IllFormedCatalogue = 9
+refusalNumber DegreeMissing = 10
+
+-- A situation, and the refusal that is given in it.
+pub record Situation : Type 0 where
+  pub applies : Bool
+  pub refusal : Refusal
+
+abbrev pub situation : Bool → Refusal → Situation
+situation b r = record { applies = b; refusal = r }
+
+-- The answer to a call: the refusal of the first situation that applies, or the value where none does.
+unfoldable pub unless : {A : Type 0} → List Situation → (Refusal → A) → A → A
+unless [] refuse value = value
+unless (s ∷ l) refuse value = elim (s .applies) [ true ↦ refuse (s .refusal) | false ↦ unless l refuse value ]
+
+-- What each answer holds, as document 01's numbers: the refusal's number, 0 where there is none, and then the values.
+abbrev pub judgementValues : Judgement → List ℕ
+judgementValues (Accepted s) = 0 ∷ s ∷ []
+judgementValues (Rejected r) = refusalNumber r ∷ []
+
+abbrev pub uniformityValues : Uniformity → List ℕ
+uniformityValues (Value t) = 0 ∷ t ∷ []
+uniformityValues (Undefined r) = refusalNumber r ∷ []
+
+abbrev pub pageValues : PageAnswer → List ℕ
+pageValues (Page n further) = 0 ∷ n ∷ bit further ∷ []
+pageValues (NoPage r) = refusalNumber r ∷ []
+
+abbrev pub pointsValues : PointsAnswer → List ℕ
+pointsValues (Written n) = 0 ∷ n ∷ []
+pointsValues (NotWritten r) = refusalNumber r ∷ []
+
+abbrev pub openingValues : Opening → List ℕ
+openingValues (Entries n) = 0 ∷ n ∷ []
+openingValues (Closed r) = refusalNumber r ∷ []
+
+abbrev pub lookupValues : Lookup → List ℕ
+lookupValues (Body top rows) = 0 ∷ top ∷ rows ∷ []
+lookupValues (NoBody r) = refusalNumber r ∷ []
