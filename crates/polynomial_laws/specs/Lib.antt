@@ -3,4 +3,5 @@ pub mod Sum
 pub mod Degree
 pub mod Division
 pub mod Product
+pub mod ProductDegree
 pub mod Power

@@ -6,13 +6,17 @@ use mathlib.Core.Path.{_≡_, refl, sym, ap, _∙_}
 use Prim.Native.Nat.{ℕ, _+_, _*_, _/_, _^_, _<_}
 use native.Mathlib.Nat.{mul-left-comm, mul-one, zero-mul, one-mul, mul-zero, add-zero, zero-div}
 use native.Mathlib.Omega.{arith}
-use Rattle.definitions.specs.Polynomial.{_⊕_, degree, prod, rem, quot}
+use Rattle.definitions.specs.Polynomial.{_⊕_, degree, byDigits, prod, rem, quot}
 use Rattle.polynomial_laws.specs.Sum.{digit-ind, by-digit, digit-cases, ⊕-double, digit-mul-⊕, digit-⊕, zero-⊕, ⊕-bit, ⊕-zero, ⊕-mul-digit, ⊕-swap, ⊕-digit, ⊕-assoc, ⊕-cancel-both}
-use Rattle.polynomial_laws.specs.Division.{byDigits-digit, rem-digit, quot-digit, rem-zero, quot-zero, rem-lt, rem-small, quot-small, rem-⊕, quot-⊕, rem-double, rem-self, quot-self, next-digit, clear-def, timesX-zero}
+use Rattle.polynomial_laws.specs.Division.{byDigits-digit, rem-digit, quot-digit, rem-zero, quot-zero, rem-lt, rem-small, quot-small, rem-⊕, quot-⊕, rem-double, rem-self, quot-self, next-digit, clear-def, timesX, timesX-zero}
 
 -- ---- the product
 prod-zero-digit : (b : ℕ) → 2 * 0 ⊕ 0 * b ≡ 0
 prod-zero-digit b = rw (zero-mul b, ⊕-zero 0)
+
+pub prod-def : (a b : ℕ) → prod a b ≡ byDigits 0 (λ c s. 2 * s ⊕ c * b) a
+unfolding prod
+prod-def a b = refl
 
 pub zero-prod : (b : ℕ) → prod 0 b ≡ 0
 unfolding prod
@@ -70,6 +74,12 @@ prod-assoc a b d =
     digit-ind (λ a. prod (prod a b) d ≡ prod a (prod b d)) (simp zero-prod)
     (λ a c h ih. simp (prod-digit, ⊕-prod, double-prod, digit-prod, ih)) a
 
+pub prod-left-comm : (a b d : ℕ) → prod a (prod b d) ≡ prod b (prod a d)
+prod-left-comm a b d = sym (prod-assoc a b d) ∙ rw (prod-comm a b, prod-assoc b a d)
+
+-- simp by this set brings both sides of an equation of products to one form
+pub ruleset prod-factors = (prod-assoc, prod-comm, prod-left-comm)
+
 pub quot-double : (b a : ℕ) → quot (2 * a) b ≡ 2 * quot a b + 2 * rem a b / 2 ^ degree b
 quot-double b a = simp add-zero at (quot-digit b a 0 (omega arith))
 
@@ -107,8 +117,23 @@ module _ (b : ℕ) (pos : 0 < b) where
       sym (ap (λ x. rem (prod x c) b) (sym (division a))
       ∙ rw (⊕-prod, rem-⊕ b pos, prod-assoc (quot a b) b c, prod-comm b c, ← prod-assoc (quot a b) c b, rem-multiple, zero-⊕))
 
+  pub rem-prod-right : (a c : ℕ) → rem (prod a (rem c b)) b ≡ rem (prod a c) b
+  rem-prod-right a c = rw (prod-comm a (rem c b), prod-comm a c) (rem-prod-left c a)
+
   pub rem-prod : (a c : ℕ) → rem (prod (rem a b) (rem c b)) b ≡ rem (prod a c) b
-  rem-prod a c = rem-prod-left a (rem c b) ∙ rw (prod-comm a (rem c b), prod-comm a c) (rem-prod-left c a)
+  rem-prod a c = rem-prod-left a (rem c b) ∙ rem-prod-right a c
 
   pub rem-rem : (a : ℕ) → rem (rem a b) b ≡ rem a b
   rem-rem a = rem-small b pos (rem a b) (rem-lt b pos a)
+
+  -- both at once, as a loop that keeps q b + r is told at its end
+  pub division-unique : (a q r : ℕ) → prod q b ⊕ r ≡ a → r < 2 ^ degree b → (q ≡ quot a b) × (r ≡ rem a b)
+  division-unique a q r e h = (sym (quot-unique q r h) ∙ ap (λ x. quot x b) e, sym (rem-unique q r h) ∙ ap (λ x. rem x b) e)
+
+  -- b divides a just where the remainder is 0
+  pub multiple-of-rem : (a : ℕ) → rem a b ≡ 0 → prod (quot a b) b ≡ a
+  multiple-of-rem a e = sym (⊕-zero (prod (quot a b) b)) ∙ ap (λ x. prod (quot a b) b ⊕ x) (sym e) ∙ division a
+
+  -- a product modulo b, one digit of the left factor at a time
+  pub rem-prod-digit : (a d c : ℕ) → c < 2 → rem (prod (2 * a + c) d) b ≡ timesX b (rem (prod a d) b) ⊕ c * rem d b
+  rem-prod-digit a d c h = rw (prod-digit a d c h, rem-⊕ b pos, rem-double b pos, rem-digit-mul c d h)

@@ -1,0 +1,6 @@
+-- Laws of numbers and lists: greatest common divisors, the first number that passes a test, counting, primes, pigeonhole.
+pub mod Gcd
+pub mod First
+pub mod Every
+pub mod Count
+pub mod Pigeon
