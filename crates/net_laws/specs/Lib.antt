@@ -1,2 +1,8 @@
 -- From parities of rows to t-values, in the order in which the laws build on each other.
 pub mod Parity
+pub mod Translation
+pub mod Reduction
+pub mod Independence
+pub mod Relation
+pub mod Net
+pub mod Pattern

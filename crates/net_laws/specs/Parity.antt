@@ -2,12 +2,12 @@
 -- of the vectors below 2^m into the truth values is such a row. By induction on binary digits, from the lowest.
 -- Assumes nothing.
 use mathlib.Core.Path.{_≡_, refl, sym, ap, ap₂, _∙_}
-use mathlib.Core.Bool.{Bool, true, false, not, _&&_, cond}
+use mathlib.Core.Bool.{Bool, true, false, not, _&&_, cond, and-comm}
 use Prim.Native.Nat.{ℕ, zero, suc, _+_, _*_, _/_, _%_, _^_, _<_, min}
 use native.Mathlib.Nat.{zero-add, suc-add, min-zero, zero-min, pow-suc, mul-comm}
 use native.Mathlib.Omega.{arith}
 use lib.Arith.{bin-ind, digits-div, digits-mod, lt-one}
-use lib.Bits.{differ, bitAnd, bitXor, xor-step, and-step, and-comm}
+use lib.Bits.{differ, bitAnd, bitXor, xor-step, and-step, and-comm as bitAnd-comm}
 use lib.Count.{ones, onesIn, ones-step}
 use Rattle.definitions.specs.Number.{bit}
 use Rattle.definitions.specs.Polynomial.{_⊕_}
@@ -67,12 +67,6 @@ not-unlike : (a b : Bool) → not (unlike a b) ≡ unlike (not a) b
 not-unlike false b = refl
 not-unlike true false = refl
 not-unlike true true = refl
-
-pub and-swap : (a b : Bool) → (a && b) ≡ (b && a)
-and-swap false false = refl
-and-swap false true = refl
-and-swap true false = refl
-and-swap true true = refl
 
 -- ---- digits
 pub bit-lt : (b : Bool) → bit b < 2
@@ -187,7 +181,7 @@ parity-linear = bin-ind (λ (r : ℕ). Linear (parity r)) base next
 
 pub parity-comm : (r h : ℕ) → parity r h ≡ parity h r
 unfolding parity
-parity-comm r h = rw (and-comm r h)
+parity-comm r h = rw (bitAnd-comm r h)
 
 -- ---- additive functions
 pub linear-zero : (f : ℕ → Bool) → Linear f → f 0 ≡ false
@@ -225,7 +219,7 @@ rowFor-parity zero f linear h l = parity-zero h ∙ sym (ap f (lt-one l) ∙ lin
 rowFor-parity (suc m) f linear h l =
     let W = rowFor m (λ x. f (x * 2)) in
     let ih = rowFor-parity m (λ x. f (x * 2)) (twice-linear f linear) (h / 2) (omega (arith, pow-suc 2 m)) in
-    parity-last (W * 2 + bit (f 1)) h ∙ rw (odd-last W (f 1), half-last W (f 1), ih, and-swap (f 1) (odd h)) (sym (last-digit f linear h))
+    parity-last (W * 2 + bit (f 1)) h ∙ rw (odd-last W (f 1), half-last W (f 1), ih, and-comm (f 1) (odd h)) (sym (last-digit f linear h))
 
 pub rowFor-lt : (m : ℕ) (f : ℕ → Bool) → rowFor m f < 2 ^ m
 unfolding rowFor
