@@ -6,3 +6,6 @@ pub mod Independence
 pub mod Relation
 pub mod Net
 pub mod Pattern
+pub mod Share
+pub mod Size
+pub mod Search
