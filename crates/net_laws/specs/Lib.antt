@@ -9,3 +9,5 @@ pub mod Pattern
 pub mod Share
 pub mod Size
 pub mod Search
+pub mod Weight
+pub mod Value
