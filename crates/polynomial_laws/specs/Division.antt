@@ -165,11 +165,17 @@ module _ (b : ℕ) (pos : 0 < b) where
   unfolding timesX
   rem-double a = simp add-zero at (rem-digit b a 0 (omega arith))
 
+  half-small : b / 2 < 2 ^ degree b
+  half-small = omega (arith, hb .most)
+
   pub rem-self : rem b b ≡ 0
-  rem-self = subst (λ x. rem x b ≡ 0) (halves b) (rw (rem-digit b (b / 2) (b % 2) (omega arith), rem-small (b / 2) (omega (arith, hb .most)), halves b) (clear-self (degree b) b hb))
+  rem-self = subst (λ x. rem x b ≡ 0) (halves b)
+      (rw (rem-digit b (b / 2) (b % 2) (omega arith), rem-small (b / 2) half-small, halves b) (clear-self (degree b) b hb))
 
   pub quot-self : quot b b ≡ 1
-  quot-self = subst (λ x. quot x b ≡ 1) (halves b) (rw (quot-digit b (b / 2) (b % 2) (omega arith), quot-small (b / 2) (omega (arith, hb .most)), rem-small (b / 2) (omega (arith, hb .most)), halves b, zero-add) (shifted b (degree b) hb))
+  quot-self = subst (λ x. quot x b ≡ 1) (halves b)
+      (rw (quot-digit b (b / 2) (b % 2) (omega arith), quot-small (b / 2) half-small, rem-small (b / 2) half-small, halves b, zero-add)
+      (shifted b (degree b) hb))
 
   pub timesX-zero : timesX b 0 ≡ 0
   timesX-zero = rw timesX-def (clear-zero (degree b) b hb)

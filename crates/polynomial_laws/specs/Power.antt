@@ -8,8 +8,8 @@ use native.Mathlib.Omega.{arith}
 use lib.Pow.{pow-add, pow-mono}
 use Rattle.definitions.specs.Polynomial.{degree, byDigits, rem, prod, power}
 use Rattle.polynomial_laws.specs.Sum.{digit-ind}
-use Rattle.polynomial_laws.specs.Degree.{HasDegree, degree-is, exponents}
-use Rattle.polynomial_laws.specs.Division.{timesX, byDigits-digit, byDigits-zero, rem-small, rem-double}
+use Rattle.polynomial_laws.specs.Degree.{degree-is, exponents}
+use Rattle.polynomial_laws.specs.Division.{timesX, byDigits-digit, rem-small, rem-double}
 use Rattle.polynomial_laws.specs.Product.{double-prod, one-prod, prod-one, prod-assoc, rem-prod, rem-prod-left, rem-prod-right}
 
 -- x^e modulo p, one x at a time.
@@ -22,6 +22,10 @@ xPower p (suc e) = timesX p (xPower p e)
 unfoldable pub powX : ℕ → ℕ → ℕ
 unfolding byDigits rem prod
 powX p e = byDigits 1 (λ c s. rem (prod (prod s s) (2 ^ c)) p) e
+
+pub xPower-zero : (p : ℕ) → xPower p 0 ≡ 1
+unfolding xPower
+xPower-zero p = refl
 
 pub xPower-suc : (p e : ℕ) → xPower p (suc e) ≡ timesX p (xPower p e)
 unfolding xPower
@@ -70,7 +74,8 @@ module _ (p : ℕ) (pos : 0 < p) where
   pub rem-power-residue : (q j : ℕ) → rem (power (rem q p) j) p ≡ rem (power q j) p
   rem-power-residue q zero = simp power-zero
   rem-power-residue q (suc j) =
-      rem-power-next (rem q p) j ∙ ap (λ x. rem (prod (rem q p) x) p) (rem-power-residue q j) ∙ rem-prod p pos q (power q j) ∙ ap (λ x. rem x p) (sym (power-suc q j))
+      rem-power-next (rem q p) j ∙ ap (λ x. rem (prod (rem q p) x) p) (rem-power-residue q j) ∙ rem-prod p pos q (power q j)
+      ∙ ap (λ x. rem x p) (sym (power-suc q j))
 
   pub rem-power-sum : (q i j : ℕ) → rem (power q (i + j)) p ≡ rem (prod (rem (power q i) p) (rem (power q j) p)) p
   rem-power-sum q i j = rw (power-add, rem-prod p pos)

@@ -33,8 +33,8 @@ pub double-prod : (a b : ℕ) → prod (2 * a) b ≡ 2 * prod a b
 double-prod a b = simp (add-zero, zero-mul, ⊕-zero) at (prod-digit a b 0 (omega arith))
 
 -- a digit times a polynomial
-pub prod-bit : (c b : ℕ) → c < 2 → prod c b ≡ c * b
-prod-bit c b h = digit-cases (λ c. prod c b ≡ c * b) (zero-prod b ∙ sym (zero-mul b)) (one-prod b ∙ sym (one-mul b)) c h
+pub bit-prod : (c b : ℕ) → c < 2 → prod c b ≡ c * b
+bit-prod c b h = digit-cases (λ c. prod c b ≡ c * b) (zero-prod b ∙ sym (zero-mul b)) (one-prod b ∙ sym (one-mul b)) c h
 
 pub ⊕-prod : (a a′ b : ℕ) → prod (a ⊕ a′) b ≡ prod a b ⊕ prod a′ b
 ⊕-prod a a′ b =
@@ -58,13 +58,13 @@ prod-zero = digit-ind (λ a. prod a 0 ≡ 0) (zero-prod 0) (λ a c h ih. simp (p
 pub prod-one : (a : ℕ) → prod a 1 ≡ a
 prod-one = digit-ind (λ a. prod a 1 ≡ a) (zero-prod 1) (λ a c h ih. simp (prod-digit, ih, mul-one) (sym (digit-⊕ a c h)))
 
-pub bit-prod : (c b : ℕ) → c < 2 → prod b c ≡ c * b
-bit-prod c b h = digit-cases (λ c. prod b c ≡ c * b) (prod-zero b ∙ sym (zero-mul b)) (prod-one b ∙ sym (one-mul b)) c h
+pub prod-bit : (c b : ℕ) → c < 2 → prod b c ≡ c * b
+prod-bit c b h = digit-cases (λ c. prod b c ≡ c * b) (prod-zero b ∙ sym (zero-mul b)) (prod-one b ∙ sym (one-mul b)) c h
 
 pub prod-comm : (a b : ℕ) → prod a b ≡ prod b a
 prod-comm a b =
     digit-ind (λ a. prod a b ≡ prod b a) (simp (zero-prod, prod-zero))
-    (λ a c h ih. rw (prod-digit, digit-⊕ a c h, prod-⊕, prod-double, ← ih, bit-prod c b h)) a
+    (λ a c h ih. rw (prod-digit, digit-⊕ a c h, prod-⊕, prod-double, ← ih, prod-bit c b h)) a
 
 pub digit-prod : (c b d : ℕ) → c < 2 → prod (c * b) d ≡ c * prod b d
 digit-prod c b d h = digit-cases (λ c. prod (c * b) d ≡ c * prod b d) (simp (zero-mul, zero-prod)) (simp one-mul) c h
@@ -130,7 +130,7 @@ module _ (b : ℕ) (pos : 0 < b) where
   pub division-unique : (a q r : ℕ) → prod q b ⊕ r ≡ a → r < 2 ^ degree b → (q ≡ quot a b) × (r ≡ rem a b)
   division-unique a q r e h = (sym (quot-unique q r h) ∙ ap (λ x. quot x b) e, sym (rem-unique q r h) ∙ ap (λ x. rem x b) e)
 
-  -- b divides a just where the remainder is 0
+  -- where the remainder is 0, a is a multiple of b
   pub multiple-of-rem : (a : ℕ) → rem a b ≡ 0 → prod (quot a b) b ≡ a
   multiple-of-rem a e = sym (⊕-zero (prod (quot a b) b)) ∙ ap (λ x. prod (quot a b) b ⊕ x) (sym e) ∙ division a
 

@@ -1,0 +1,4 @@
+-- Laws of Euclid's algorithm on binary polynomials, of partial quotients and of the tree of pairs.
+pub mod WellFormed
+pub mod Expansion
+pub mod Quotients
