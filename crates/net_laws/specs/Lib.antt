@@ -11,3 +11,4 @@ pub mod Size
 pub mod Search
 pub mod Weight
 pub mod Value
+pub mod Dual
