@@ -12,3 +12,5 @@ pub mod Search
 pub mod Weight
 pub mod Value
 pub mod Dual
+pub mod Inverse
+pub mod TValue

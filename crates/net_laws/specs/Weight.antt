@@ -28,6 +28,18 @@ unfolding level
 weight G f room m zero = suc m
 weight G f room m (suc j) = level G f room (suc j) (weight G f room m j)
 
+pub weight-one : (G : ℕ → ℕ → ℕ) (f room m : ℕ) → weight G f room m 0 ≡ suc m
+unfolding weight
+weight-one G f room m = refl
+
+pub weight-suc : (G : ℕ → ℕ → ℕ) (f room m j : ℕ) → weight G f room m (suc j) ≡ level G f room (suc j) (weight G f room m j)
+unfolding weight
+weight-suc G f room m j = refl
+
+pub level-le : (G : ℕ → ℕ → ℕ) (f room j W : ℕ) → level G f room j W ≤ W
+unfolding level
+level-le G f room j W = omega (arith, search-le G f (j + room) j 1 1 (G j 0 ∷ []) (min W (1 + size (G j 0))))
+
 -- ---- the least weight
 module _ (G : ℕ → ℕ → ℕ) (m : ℕ) where
   -- a relation of this weight
