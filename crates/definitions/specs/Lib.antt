@@ -9,3 +9,5 @@ pub mod Ranking
 pub mod Answers
 pub mod Calls
 pub mod Examples
+pub mod Catalogue
+pub mod Listing

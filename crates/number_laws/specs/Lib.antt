@@ -4,3 +4,6 @@ pub mod First
 pub mod Every
 pub mod Count
 pub mod Pigeon
+pub mod Lists
+pub mod Primes
+pub mod Covers
