@@ -3,3 +3,5 @@ pub mod Exponents
 pub mod Table
 pub mod Powers
 pub mod Primitive
+pub mod Cycle
+pub mod Parity
