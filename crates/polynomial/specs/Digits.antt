@@ -1,20 +1,14 @@
--- Digits of words: their number, from leading zeros; their parity, which is the remainder by x + 1; and one digit told by a mask.
+-- Digits of words: the degree from leading zeros, a power of x by a shift, and the digit at x^m told by a mask.
 -- Assumes nothing.
-use mathlib.Core.Path.{_≡_, refl, sym, ap₂, _∙_}
+use mathlib.Core.Path.{_≡_, ap₂, _∙_}
 use Prim.Native.Nat.{ℕ, zero, suc, _+_, _-_, _*_, _%_, _^_, _≤_, _<_}
 use native.Mathlib.Nat.{one-mul, lt-of-not-le, mod-eq-of-lt, pow-suc}
 use native.Mathlib.Omega.{arith}
 use lib.Pow.{pow-pos, pow-lt}
 use lib.Bits.{bitAnd, and-block, and-zero-r}
-use lib.Count.{ones, ones-step, leadingZeros, leading-top}
-use Rattle.definitions.specs.Polynomial.{_⊕_, degree, clear, rem}
-use Rattle.polynomial_laws.specs.Sum.{digit-ind, digit-cases}
+use lib.Count.{leadingZeros, leading-top}
+use Rattle.definitions.specs.Polynomial.{degree}
 use Rattle.polynomial_laws.specs.Degree.{HasDegree, degree-unique}
-use Rattle.polynomial_laws.specs.Division.{rem-digit, rem-zero}
-
--- The parity of the digits of a row.
-abbrev pub parityOf : ℕ → ℕ
-parityOf row = ones row % 2
 
 -- the degree, as a count of leading zeros has it
 pub leading-degree : (a : ℕ) → 0 < a → a < 2 ^ 32 → leadingZeros 32 a + suc (degree a) ≡ 32
@@ -26,25 +20,6 @@ leading-degree a h k =
 -- the code's 1 << k
 pub one-shl : (k : ℕ) → k < 32 → 1 * 2 ^ k % 2 ^ 32 ≡ 2 ^ k
 one-shl k h = rw one-mul (mod-eq-of-lt (pow-lt h))
-
--- ---- the parity is the remainder by x + 1, the value at 1
-three-degree : degree 3 ≡ 1
-unfolding degree
-three-degree = refl
-
-next-parity : (r c : ℕ) → r < 2 → c < 2 → clear 1 3 (2 * r + c) ≡ (c + r) % 2
-unfolding clear _⊕_
-next-parity r c hr hc =
-    digit-cases (λ r. clear 1 3 (2 * r + c) ≡ (c + r) % 2) (digit-cases (λ c. clear 1 3 (2 * 0 + c) ≡ (c + 0) % 2) refl refl c hc)
-    (digit-cases (λ c. clear 1 3 (2 * 1 + c) ≡ (c + 1) % 2) refl refl c hc) r hr
-
-pub parity-rem : (a : ℕ) → parityOf a ≡ rem a 3
-parity-rem = digit-ind (λ a. parityOf a ≡ rem a 3) (unfold ones in sym (rem-zero 3))
-    (λ a c h ih.
-    let counted : ones (2 * a + c) ≡ c + ones a = ones-step (2 * a + c) ∙ ap₂ (λ x y. x + ones y) (omega arith) (omega arith) in
-    let bit : rem a 3 < 2 = omega (arith, ih) in
-    let next : rem (2 * a + c) 3 ≡ (c + rem a 3) % 2 = rem-digit 3 a c h ∙ rw three-degree (next-parity (rem a 3) c bit h) in
-    omega (arith, ih))
 
 -- ---- a digit times a number
 pub digit-mul-le : (c a : ℕ) → c < 2 → c * a ≤ a

@@ -1,8 +1,8 @@
 // The digits of a polynomial: its degree, and their parity.
 ghost use mathlib.Core.Path.{_≡_};
-ghost use Prim.Native.Nat.{_<_};
+ghost use Prim.Native.Nat.{_%_, _<_};
+ghost use lib.Count.{ones};
 ghost use Rattle.definitions.specs.Polynomial.{degree};
-ghost use Rattle.polynomial.specs.Digits.{parityOf};
 
 // The degree of a polynomial other than 0: the place of its highest digit.
 pub fn degree_of(a: u32) -> u32
@@ -14,7 +14,7 @@ pub fn degree_of(a: u32) -> u32
 
 // The parity of a digit row.
 pub fn parity(row: u32) -> u32
-    ensures { λ r. ⌜ r ≡ parityOf row ⌝ }
+    ensures { λ r. ⌜ r ≡ ones row % 2 ⌝ }
 {
     u32::count_ones(row) % 2
 }
