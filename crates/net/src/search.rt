@@ -1,12 +1,12 @@
 // The search for the least weight of a relation, one row taken at a time.
-use crate::rows::times_x;
+use polynomial::residues::times_x;
 ghost use mathlib.Core.Path.{_≡_};
 ghost use Prim.Native.Nat.{_+_, _*_, _^_, _<_, _≤_};
 ghost use lib.ListN.{length};
-ghost use Rattle.definitions.specs.Polynomial.{degree};
+ghost use Rattle.polynomial.specs.Modulus.{Modulus};
 ghost use Rattle.net_laws.specs.Reduction.{reduce as reduceAll};
 ghost use Rattle.net_laws.specs.Size.{size as sizeOf};
-ghost use Rattle.net.specs.Run.{Modulus, Residues, newest, Searched, Levelled};
+ghost use Rattle.net.specs.Run.{Residues, newest, Searched, Levelled};
 
 // How many binary digits v has.
 pub fn size(v: u32) -> usize
@@ -42,10 +42,11 @@ pub fn search(
     powers: &[u32; 8],
     f: usize,
     p: u32,
+    top: u32,
 ) -> usize
-    requires { ⌜ Modulus p ⌝ }
-    requires { ⌜ r < 2 ^ degree p ⌝ }
-    requires { ⌜ Residues p (now powers) ⌝ }
+    requires { ⌜ Modulus p top ⌝ }
+    requires { ⌜ r < top ⌝ }
+    requires { ⌜ Residues top (now powers) ⌝ }
     requires { ⌜ (1 ≤ f) × (f ≤ 2) × (j < 8) × (e < 32) × (w ≤ 32) ⌝ }
     requires { ⌜ length (now b) ≡ 32 ⌝ }
     ensures { λ k. ⌜ Searched p (now (powers .entry)) f j r e (now (b .entry)) (now (b .exit)) w k ⌝ }
@@ -62,18 +63,18 @@ pub fn search(
         least = w;
     }
     if e + 1 + f >= least {
-        return search(j - 1, e, least, powers[j - 1], b, powers, f, p);
+        return search(j - 1, e, least, powers[j - 1], b, powers, f, p, top);
     }
     b[e] = v;
-    let next = times_x(r, p);
-    let taken = search(j, e + 1, least, next, b, powers, f, p);
-    search(j - 1, e, taken, powers[j - 1], b, powers, f, p)
+    let next = times_x(r, p, top);
+    let taken = search(j, e + 1, least, next, b, powers, f, p, top);
+    search(j - 1, e, taken, powers[j - 1], b, powers, f, p, top)
 }
 
 // The least weight with coordinate j, where w is the least without it.
-pub fn level(j: usize, w: usize, powers: &[u32; 8], f: usize, p: u32) -> usize
-    requires { ⌜ Modulus p ⌝ }
-    requires { ⌜ Residues p (now powers) ⌝ }
+pub fn level(j: usize, w: usize, powers: &[u32; 8], f: usize, p: u32, top: u32) -> usize
+    requires { ⌜ Modulus p top ⌝ }
+    requires { ⌜ Residues top (now powers) ⌝ }
     requires { ⌜ (1 ≤ f) × (f ≤ 2) × (0 < j) × (j < 8) × (w ≤ 32) ⌝ }
     ensures { λ k. ⌜ Levelled p (now (powers .entry)) f j w k ⌝ }
 {
@@ -84,6 +85,6 @@ pub fn level(j: usize, w: usize, powers: &[u32; 8], f: usize, p: u32) -> usize
     if w < least {
         least = w;
     }
-    let next = times_x(r, p);
-    search(j, 1, least, next, &mut b, powers, f, p)
+    let next = times_x(r, p, top);
+    search(j, 1, least, next, &mut b, powers, f, p, top)
 }
