@@ -2,3 +2,4 @@
 pub mod Pairs
 pub mod Met
 pub mod Ranked
+pub mod Session
