@@ -4,17 +4,19 @@
 use mathlib.Core.Path.{_≡_, refl, sym, ap, _∙_, subst}
 use mathlib.Core.Logic.{_↔_}
 use mathlib.Core.Bool.{Bool, true, false, not, _&&_, and-eq-true-iff}
-use mathlib.Core.List.{List, [], _∷_}
+use mathlib.Core.List.{List, _++_}
 use Prim.Native.Nat.{ℕ, _+_, _-_, _^_, _≤_, _<_}
 use native.Mathlib.Omega.{arith}
 use lib.Dec.{leb}
+use lib.ListN.{length, drop}
 use lib.Pow.{pow-pos}
-use borrow.Author.Tests.{leb-true, le-leb}
+use borrow.Author.Tests.{leb-true, le-leb, le-ltb}
 use Rattle.definitions.specs.Number.{bit, count, gcd}
 use Rattle.definitions.specs.Generator.{leastDegree, largestDegree, lawfulDegree, wellFormed, period, primitive, linearQuotients, coprimeStep, step, accepted}
 use Rattle.definitions.specs.Answers.{unless}
 use Rattle.definitions.specs.Net.{tValue}
-use Rattle.definitions.specs.Calls.{pairSituations, judging, judgement}
+use Rattle.definitions.specs.Points.{words}
+use Rattle.definitions.specs.Calls.{pairSituations, judging, judgement, pointing, wordCount, pointsSlice}
 use Rattle.definitions.specs.declared.Judgement.{Judgement}
 use Rattle.definitions.specs.declared.Judgement.the-variants.{Accepted, Rejected}
 use Rattle.fraction_laws.specs.WellFormed.{WellFormed, wellFormed-is}
@@ -131,6 +133,14 @@ period-full m p q σ c =
     let w = c .well-formed in
     full-period m p q (omega (arith, c .least)) (w .degree-p) (w .nonzero) (w .smaller)
     (accepted-is m p q .1 (record { primitive-p = t .primitive-p; linear = t .linear; coprime = t .coprime }))
+
+-- From the first word on, a slice that is long enough is handed the words of the full period, and keeps the rest.
+pub period-written : (m p q σ : ℕ) → Conditions m p q σ → (s : List ℕ) → period m ≤ length s → pointsSlice m p q 0 s ≡ words p q 0 (period m) ++ drop (period m) s
+unfolding pointsSlice unless pointing judging pairSituations
+period-written m p q σ c s l =
+    let t = conditions-tests m p q σ c in
+    let n : wordCount m 0 s ≡ period m = omega arith in
+    rw (t .lawful, unless, t .formed, t .primitive-p, t .linear, t .coprime, le-ltb (period m - 1) 0 (omega arith), n)
 
 -- THE POINT SET: to 32 digits it is the origin together with the s-blocks of the output, round the period, whatever is asked of a point.
 pub points-origin-and-blocks : (m p q σ : ℕ) → Conditions m p q σ → (s : ℕ) (test : List ℕ → Bool)
