@@ -1,0 +1,79 @@
+// The prime divisors of 2^m - 1, for each degree m that the library covers.
+ghost use mathlib.Core.Path.{_≡_};
+ghost use Prim.Native.Nat.{_<_, _≤_};
+ghost use lib.ListN.{getD};
+ghost use Rattle.definitions.specs.Generator.{leastDegree, largestDegree};
+ghost use Rattle.order_laws.specs.Table.{divisorsOf};
+
+// Four places for each degree from 2 on, with 0 behind the divisors.
+const DIVISORS: [u32; 60] = [
+    3,
+    0,
+    0,
+    0,
+    7,
+    0,
+    0,
+    0,
+    3,
+    5,
+    0,
+    0,
+    31,
+    0,
+    0,
+    0,
+    3,
+    7,
+    0,
+    0,
+    127,
+    0,
+    0,
+    0,
+    3,
+    5,
+    17,
+    0,
+    7,
+    73,
+    0,
+    0,
+    3,
+    11,
+    31,
+    0,
+    23,
+    89,
+    0,
+    0,
+    3,
+    5,
+    7,
+    13,
+    8191,
+    0,
+    0,
+    0,
+    3,
+    43,
+    127,
+    0,
+    7,
+    31,
+    151,
+    0,
+    3,
+    5,
+    17,
+    257,
+];
+
+// The i-th prime divisor of 2^m - 1; 0 behind the last.
+pub fn divisor(m: u32, i: usize) -> u32
+    requires { ⌜ (leastDegree ≤ m) × (m ≤ largestDegree) ⌝ }
+    requires { ⌜ i < 4 ⌝ }
+    ensures { λ r. ⌜ r ≡ getD (divisorsOf m) i 0 ⌝ }
+{
+    DIVISORS[(m - 2) as usize * 4 + i]
+}
