@@ -3,3 +3,9 @@ pub mod Exponents
 pub mod Table
 pub mod Powers
 pub mod Primitive
+pub mod Cycle
+pub mod Parity
+pub mod Step
+pub mod State
+pub mod Orbit
+pub mod Accepted

@@ -1,0 +1,3 @@
+-- The three demands, one file each, and that every contract leaves no choice.
+pub mod Situations
+pub mod Demand1
