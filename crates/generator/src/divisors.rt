@@ -1,11 +1,15 @@
 // The prime divisors of 2^m - 1, for each degree m that the library covers.
 ghost use mathlib.Core.Path.{_≡_};
-ghost use Prim.Native.Nat.{_<_, _≤_};
+ghost use Prim.Native.Nat.{_<_};
 ghost use lib.ListN.{getD};
-ghost use Rattle.definitions.specs.Generator.{leastDegree, largestDegree};
+ghost use Rattle.generator.specs.Lawful.{Lawful};
 ghost use Rattle.order_laws.specs.Table.{divisorsOf};
+use crate::degrees;
 
-// Four places for each degree from 2 on, with 0 behind the divisors.
+// As many places as a degree has divisors at most.
+pub const PLACES: usize = 4;
+
+// So many places for each degree from 2 on, with 0 behind the divisors.
 const DIVISORS: [u32; 60] = [
     3,
     0,
@@ -71,9 +75,9 @@ const DIVISORS: [u32; 60] = [
 
 // The i-th prime divisor of 2^m - 1; 0 behind the last.
 pub fn divisor(m: u32, i: usize) -> u32
-    requires { ⌜ (leastDegree ≤ m) × (m ≤ largestDegree) ⌝ }
+    requires { ⌜ Lawful m ⌝ }
     requires { ⌜ i < 4 ⌝ }
     ensures { λ r. ⌜ r ≡ getD (divisorsOf m) i 0 ⌝ }
 {
-    DIVISORS[(m - 2) as usize * 4 + i]
+    DIVISORS[(m - degrees::LEAST) as usize * PLACES + i]
 }

@@ -25,7 +25,7 @@ array-read-result c = search needs
 
 returns : tie.Need-returns
 unfolding flatTable
-returns c = table-at (c .args .m) (c .args .i) (c .pre .0 .0) (c .pre .0 .1) (c .pre .1)
+returns c = table-at (c .args .m) (c .args .i) (c .pre .0 .low) (c .pre .0 .high) (c .pre .1)
 
 pub divisor-spec : {M : Type 1} → statement M
 divisor-spec =
