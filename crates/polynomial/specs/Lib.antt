@@ -2,3 +2,5 @@
 pub mod Digits
 pub mod Modulus
 pub mod Residues
+pub mod Fractions
+pub mod Division
