@@ -57,9 +57,9 @@ module _ (m p q : ℕ) (h : Lawful m) (w : WellFormed m p q) (t : primitive m p 
     least = omega (arith, a .least);
     most = omega (arith, at-before power e a n);
     is =
-    k
-    ∙ ap (λ (y : ℕ). rem (2 * y) p) (a .is)
-    ∙ sym (timesX-rem p (omega (arith, big)) (rem (2 ^ e) p) (rem-lt p (omega (arith, big)) (2 ^ e)))
-    ∙ sym (rem-power-suc p big e)
-    ∙ ap (λ (j : ℕ). rem (2 ^ j) p) (sym (add-one e));
+        k
+        ∙ ap (λ (y : ℕ). rem (2 * y) p) (a .is)
+        ∙ sym (timesX-rem p (omega (arith, big)) (rem (2 ^ e) p) (rem-lt p (omega (arith, big)) (2 ^ e)))
+        ∙ sym (rem-power-suc p big e)
+        ∙ ap (λ (j : ℕ). rem (2 ^ j) p) (sym (add-one e));
   }

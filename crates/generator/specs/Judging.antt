@@ -3,9 +3,11 @@ use mathlib.Core.Path.{_≡_, refl, ap, _∙_}
 use mathlib.Core.Bool.{Bool, true, false, not}
 use mathlib.Core.List.{List, [], _∷_, _++_}
 use Prim.Native.Nat.{ℕ}
+use lib.Dec.{eqb}
 use Rattle.definitions.specs.Answers.{Situation, situation, unless}
 use Rattle.definitions.specs.Calls.{pairSituations, judging, judgement}
-use Rattle.definitions.specs.Generator.{lawfulDegree, wellFormed, primitive, linearQuotients, coprimeStep, step}
+use Rattle.definitions.specs.Number.{gcd}
+use Rattle.definitions.specs.Generator.{lawfulDegree, wellFormed, primitive, linearQuotients, coprimeStep, step, period}
 use Rattle.definitions.specs.declared.Refusal.{Refusal}
 use Rattle.definitions.specs.declared.Refusal.the-variants.{WrongDegree, IllFormedPair, NotPrimitive, QuotientNotLinear, StepNotCoprime}
 use Rattle.definitions.specs.declared.Judgement.{Judgement}
@@ -23,6 +25,10 @@ judgement-unlawful m p q h = rw h
 pub judgement-lawful : (m p q : ℕ) → lawfulDegree m ≡ true → judgement m p q ≡ pairJudgement m p q
 unfolding judgement judging unless pairJudgement
 judgement-lawful m p q h = rw h
+
+pub coprimeStep-def : (m p q : ℕ) → coprimeStep m p q ≡ eqb (gcd (step m p q) (period m)) 1
+unfolding coprimeStep
+coprimeStep-def m p q = refl
 
 module _ (m p q : ℕ) where
   pub ill-formed : wellFormed m p q ≡ false → pairJudgement m p q ≡ Rejected IllFormedPair

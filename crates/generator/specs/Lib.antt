@@ -5,3 +5,4 @@ pub mod DivisorTable
 pub mod DivisorLoop
 pub mod Finder
 pub mod Judging
+pub mod Refusals

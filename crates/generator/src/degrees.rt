@@ -5,6 +5,7 @@ ghost use Rattle.definitions.specs.Generator.{lawfulDegree};
 ghost use Rattle.generator.specs.Lawful.{Lawful};
 
 pub const LEAST: u32 = 2;
+
 pub const LARGEST: u32 = 16;
 
 pub fn is_lawful(m: u32) -> bool

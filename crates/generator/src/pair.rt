@@ -5,10 +5,11 @@ ghost use Rattle.generator.specs.Lawful.{Lawful};
 ghost use Rattle.generator.specs.Judging.{pairJudgement};
 use crate::common_divisor;
 use crate::degrees;
-use definitions::Judgement;
-use definitions::Refusal;
 use crate::primitive;
 use crate::step;
+use definitions::Judgement;
+use definitions::Refusal;
+use polynomial::fractions;
 
 // 2^m ≤ p < 2^(m+1) and 1 ≤ q < 2^m.
 pub fn is_well_formed(m: u32, p: u32, q: u32) -> bool
@@ -39,9 +40,12 @@ pub fn judge_pair(m: u32, p: u32, q: u32) -> Judgement
     if !primitive::is_primitive(m, p) {
         return Judgement::Rejected(Refusal::NotPrimitive);
     }
+    let top = degrees::leading_term(m);
+    if !fractions::linear_quotients(p, q, top) {
+        return Judgement::Rejected(Refusal::QuotientNotLinear);
+    }
     let step = step::find_step(m, p, q);
-    let period = degrees::leading_term(m) - 1;
-    if common_divisor::gcd_of(step, period) != 1 {
+    if common_divisor::gcd_of(step, top - 1) != 1 {
         return Judgement::Rejected(Refusal::StepNotCoprime);
     }
     Judgement::Accepted(step)

@@ -83,12 +83,14 @@ loop-less : tie.Need-loop-less Inv-loop μ-loop
 loop-less c = search needs
 
 loop-again : tie.Need-loop-again Inv-loop μ-loop
-loop-again c =
-    (left-more _ (c .before .before .before .before .before .before .before .pre .0) _ _ _
-    (c .before .before .before .before .before .loop .inv .0)
-    (c .before .before .before .divisor .ensures)
-    (c .before .before .if1 .left)
-    (ne-eqb _ 1 (λ e. c .if2 .left (taken (c .before) ∙ e))), omega arith)
+loop-again c = (
+  left-more _ (c .before .before .before .before .before .before .before .pre .0) _ _ _
+      (c .before .before .before .before .before .loop .inv .0)
+      (c .before .before .before .divisor .ensures)
+      (c .before .before .if1 .left)
+      (ne-eqb _ 1 (λ e. c .if2 .left (taken (c .before) ∙ e))),
+  omega arith,
+)
 
 returns-3 : tie.Need-returns-3 Inv-loop μ-loop
 returns-3 c =

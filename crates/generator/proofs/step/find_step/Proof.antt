@@ -44,8 +44,7 @@ loop-less c =
 
 loop-again : tie.Need-loop-again Inv-loop μ-loop
 loop-again c =
-    let pre = c .before .before .before .before .pre in
-    (
+    let pre = c .before .before .before .before .pre in (
       at-next _ _ _ (pre .0) (pre .1 .0) (pre .1 .1) _ _ _ (c .before .before .loop .inv .0) (c .before .if1 .left) (c .times-x .ensures .0),
       c .times-x .ensures .1,
     )
