@@ -4,12 +4,13 @@
 use mathlib.Core.Path.{_≡_, refl, sym, ap, ap₂, _∙_}
 use mathlib.Core.Logic.{_⊎_, inl, inr, ⊎-elim}
 use mathlib.Core.Bool.{Bool, true, false, cond}
-use mathlib.Core.List.{List, [], _∷_, _++_, List·Memᴰ, List·Memᴰ·head, List·Memᴰ·tail, List·Memᴰ·not-nil, List·Memᴰ·cases-cons, List·Memᴰ·append-cases}
+use mathlib.Core.List.{List, [], _∷_, _++_, List·Memᴰ, List·Memᴰ·head, List·Memᴰ·tail, List·Memᴰ·not-nil, List·Memᴰ·cases-cons, List·Memᴰ·append-cases, Memᴰ·cast, List·Nodup}
 use Prim.Native.Nat.{ℕ, zero, suc, _+_}
 use native.Mathlib.Omega.{arith}
 use lib.ListN.{length, take}
 use lib.Seq.{take-take}
 use Rattle.definitions.specs.Pages.{before, Place, start, after, above, insert, insertAll, sort, rest, page}
+use Rattle.number_laws.specs.Lists.{nodup-fresh, nodup-tail}
 use Rattle.page_laws.specs.Key.{before-total, cases}
 use Rattle.page_laws.specs.Ascending.{Ascends, lower-after, rest-keep, rest-skip, rest-none, same-members}
 
@@ -177,6 +178,15 @@ module _ {X : Type 0} (key : X → List ℕ) where
   distinct-append (r ∷ a) b d e f = (
     λ x m k. ⊎-elim (λ (u : List·Memᴰ x a). d .0 x u k) (λ (v : List·Memᴰ x b). f r (List·Memᴰ·head refl) x v k) (List·Memᴰ·append-cases a m),
     distinct-append a b (d .1) e (λ s m. f s (List·Memᴰ·tail m)),
+  )
+
+  -- Elements that occur once and are told apart by their keys.
+  pub distinct-once : (l : List X) → List·Nodup l → ((x y : X) → List·Memᴰ x l → List·Memᴰ y l → key x ≡ key y → x ≡ y) → Distinct key l
+  unfolding Distinct
+  distinct-once [] n f = tt
+  distinct-once (r ∷ rs) n f = (
+    λ x m e. nodup-fresh n (Memᴰ·cast (sym (f x r (List·Memᴰ·tail m) (List·Memᴰ·head refl) e)) m),
+    distinct-once rs (nodup-tail n) (λ x y m k. f x y (List·Memᴰ·tail m) (List·Memᴰ·tail k)),
   )
 
   -- ---- the elements above a place

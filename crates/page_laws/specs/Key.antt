@@ -4,10 +4,11 @@
 use mathlib.Core.Path.{_≡_, refl, sym, ap, ap₂, _∙_}
 use mathlib.Core.Logic.{_⊎_, inl, inr, ⊎-elim}
 use mathlib.Core.Bool.{Bool, true, false, _||_, _&&_, or-false, and-false, true≢false}
-use mathlib.Core.List.{List, [], _∷_}
+use mathlib.Core.List.{List, [], _∷_, _++_}
 use Prim.Native.Nat.{ℕ, _<_}
 use native.Mathlib.Omega.{arith}
 use lib.Dec.{ltb, eqb}
+use lib.ListN.{length}
 use borrow.Author.Tests.{lt-ltb, le-ltb, eq-eqb, ne-eqb, ltb-true, ltb-false, eqb-true, eqb-false}
 use Rattle.definitions.specs.Pages.{before}
 
@@ -94,3 +95,19 @@ before-total (x ∷ a) (y ∷ b) p q = go (before-total a b)
 
     go : (before a b ≡ false → before b a ≡ false → a ≡ b) → x ∷ a ≡ y ∷ b
     go ih = ap₂ _∷_ same (ih (sym (before-same x y a b same) ∙ p) (sym (before-same y x b a (sym same)) ∙ q))
+
+-- Keys that begin with equally long lists of which one stands before the other compare as these do.
+pub before-prefix : (a b x y : List ℕ) → length a ≡ length b → before a b ≡ true → before (a ++ x) (b ++ y) ≡ true
+unfolding before
+before-prefix [] [] x y l t = not-both t refl
+before-prefix [] (d ∷ b) x y l t = absurd (omega arith)
+before-prefix (c ∷ a) [] x y l t = absurd (omega arith)
+before-prefix (c ∷ a) (d ∷ b) x y l t = go (before-heads c d a b t) (before-prefix a b x y (omega arith))
+  where
+    go : (c < d) ⊎ ((c ≡ d) × (before a b ≡ true)) → (before a b ≡ true → before (a ++ x) (b ++ y) ≡ true) → before (c ∷ (a ++ x)) (d ∷ (b ++ y)) ≡ true
+    go (inl h) ih = before-less c d (a ++ x) (b ++ y) h
+    go (inr h) ih = before-same c d (a ++ x) (b ++ y) (h .0) ∙ ih (h .1)
+
+-- What stands before another is not stood before by it.
+pub before-asym : (a b : List ℕ) → before a b ≡ true → before b a ≡ false
+before-asym a b t = fails (before b a) (λ (u : before b a ≡ true). not-both (before-trans a b a t u) (before-irrefl a))

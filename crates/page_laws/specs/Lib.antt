@@ -3,3 +3,6 @@ pub mod Key
 pub mod Ascending
 pub mod Walk
 pub mod Insertion
+pub mod Slot
+pub mod Rows
+pub mod Search
