@@ -2,15 +2,15 @@
 -- turned by a vector that keeps the others, which halves every count exactly. Rows that are not free leave a pattern out altogether.
 -- Assumes nothing.
 use mathlib.Core.Path.{_≡_, refl, sym, ap, ap₂, _∙_, fun-ext}
-use mathlib.Core.Bool.{Bool, true, false, not, _&&_, and-eq-true-iff, and-comm, and-false, true≢false, false≢true}
+use mathlib.Core.Bool.{Bool, true, false, not, _&&_, and-eq-true-iff, and-comm, true≢false, false≢true}
 use mathlib.Core.List.{List, [], _∷_}
-use Prim.Native.Nat.{ℕ, zero, suc, _+_, _*_, _^_, _<_}
+use Prim.Native.Nat.{ℕ, zero, suc, _*_, _^_, _<_}
 use native.Mathlib.Nat.{pow-suc}
 use native.Mathlib.Omega.{arith}
 use borrow.Author.Tests.{not-true}
 use lib.Pow.{pow-pos}
 use lib.ListN.{length, replicate, length-replicate}
-use Rattle.definitions.specs.Number.{count, bit}
+use Rattle.definitions.specs.Number.{count}
 use Rattle.definitions.specs.Polynomial.{_⊕_}
 use Rattle.number_laws.specs.Count.{count-none, count-every}
 use Rattle.net_laws.specs.Parity.{unlike, unlike-false, unlike-true, Linear, linear-zero, positive, parity, parity-zero, parity-linear, parity-comm, rowFor, rowFor-parity, rowFor-lt}

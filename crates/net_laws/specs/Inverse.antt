@@ -3,7 +3,7 @@
 -- the search may stop one row sooner.
 -- Assumes nothing.
 use mathlib.Core.Path.{_≡_, refl, sym, ap, ap₂, _∙_, fun-ext, subst}
-use mathlib.Core.Logic.{_⊎_, inl, inr}
+use mathlib.Core.Logic.{inl, inr}
 use mathlib.Core.Bool.{Bool, true, false, not, _&&_, and-comm, true≢false}
 use mathlib.Core.List.{List, [], _∷_, _++_}
 use Prim.Native.Nat.{ℕ, zero, suc, _+_, _*_, _/_, _^_, _≤_, _<_}
@@ -26,7 +26,7 @@ use Rattle.net_laws.specs.Net.{total}
 use Rattle.net_laws.specs.Pattern.{firstRows, rowsOf, meets-append, split, length-rows}
 use Rattle.net_laws.specs.Share.{shareRows, depends, shareRows-depends, free-depends-none, each-rows, each-firstRows}
 use Rattle.net_laws.specs.Search.{Reach, done}
-use Rattle.net_laws.specs.Weight.{Least, Sound, rows-reach, reach-rows, rowsFrom-none}
+use Rattle.net_laws.specs.Weight.{Sound, rows-reach, reach-rows, rowsFrom-none}
 use Rattle.net_laws.specs.Dual.{digitRow, digitRow-lt, digitRow-power, digitRow-coordinate, topDigit, image, image-parity, image-count}
 
 -- ---- the order of two blocks of rows does not matter
