@@ -63,7 +63,8 @@ module _ (p : ℕ) (powers : List ℕ) (f : ℕ) where
   abbrev taken : ℕ → ℕ → ℕ → ℕ → List ℕ → ℕ → ℕ
   taken n j r e bs W = run p powers f n j (rem (2 * r) p) (suc e) (reduce bs r ∷ bs) (min W (suc e + size (reduce bs r)))
 
-  run-on : (n j r e : ℕ) (bs : List ℕ) (W : ℕ) → e + f < W → run p powers f (suc n) (suc j) r e bs W ≡ run p powers f n j (getD powers j 0) e bs (taken n (suc j) r e bs W)
+  run-on : (n j r e : ℕ) (bs : List ℕ) (W : ℕ) → e + f < W
+      → run p powers f (suc n) (suc j) r e bs W ≡ run p powers f n j (getD powers j 0) e bs (taken n (suc j) r e bs W)
   unfolding run
   run-on n j r e bs W l = rw (lt-ltb (e + f) W l, run)
 
@@ -85,7 +86,8 @@ module _ (p : ℕ) (powers : List ℕ) (f : ℕ) where
   at-bound j r e b W l = record { found = sym (run-off (j + (suc room - e)) j r e (newest b e) W l); kept = refl; less = omega arith; sized = refl }
 
   -- no row after this one can help
-  pub went-past : (j r e : ℕ) (b b3 : List ℕ) (W v least k : ℕ) → (j ≡ 0 → ⊥) → e + f < W → v ≡ reduce (newest b e) r → least ≡ min W (e + 1 + size v) → least ≤ e + 1 + f
+  pub went-past : (j r e : ℕ) (b b3 : List ℕ) (W v least k : ℕ) → (j ≡ 0 → ⊥) → e + f < W → v ≡ reduce (newest b e) r → least ≡ min W (e + 1 + size v)
+      → least ≤ e + 1 + f
       → Searched p powers f (j - 1) (getD powers (j - 1) 0) e b b3 least k → Searched p powers f j r e b b3 W k
   went-past zero r e b b3 W v least k nz on ev el off s2 = absurd (nz refl)
   went-past (suc j) r e b b3 W v least k nz on ev el off s2 =

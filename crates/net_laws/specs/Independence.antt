@@ -90,7 +90,8 @@ free-balanced m (r ∷ rs) small f (b ∷ bs) e =
     let half = count-half m P (parity r) v (turner-lt m r rs small (t .0)) (λ h. meets-keep rs bs v h (keeps m r rs small (t .0)))
     (λ h. parity-linear r h v ∙ ap (unlike (parity r h)) (turns m r rs small (t .0)) ∙ unlike-true (parity r h)) b in
     let ih = free-balanced m rs (small .1) (t .1) bs (omega arith) in
-    let swap : count (2 ^ m) (λ h. agrees b (parity r h) && P h) ≡ count (2 ^ m) (λ h. P h && agrees b (parity r h)) = ap (count (2 ^ m)) (fun-ext (λ h. and-comm (agrees b (parity r h)) (P h))) in
+    let swap : count (2 ^ m) (λ h. agrees b (parity r h) && P h) ≡ count (2 ^ m) (λ h. P h && agrees b (parity r h)) =
+    ap (count (2 ^ m)) (fun-ext (λ h. and-comm (agrees b (parity r h)) (P h))) in
     rw (swap, pow-suc 2 (length rs)) (omega (arith, ih, ap (λ (x : ℕ). x * 2 ^ length rs) half))
 
 -- ---- dependent rows miss a pattern

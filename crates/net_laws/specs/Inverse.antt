@@ -85,7 +85,8 @@ module _ (m : ℕ) (G : ℕ → ℕ → ℕ) (small : (j i : ℕ) → G j i < 2 
       go true e = refl
       go false e =
           let is-free : free (shareRows G d ds) ≡ true = shareRows-depends G d ds (λ i k. powers i (omega arith)) ∙ ap not e in
-          let fits : Each (λ r. r < 2 ^ m) (shareRows G d ds) = each-append (λ r. r < 2 ^ m) (rowsOf G 1 ds) (firstRows (G 0) d) (each-rows (λ r. r < 2 ^ m) G small ds 1) (each-firstRows (λ r. r < 2 ^ m) (G 0) (small 0) d) in
+          let fits : Each (λ r. r < 2 ^ m) (shareRows G d ds) =
+          each-append (λ r. r < 2 ^ m) (rowsOf G 1 ds) (firstRows (G 0) d) (each-rows (λ r. r < 2 ^ m) G small ds 1) (each-firstRows (λ r. r < 2 ^ m) (G 0) (small 0) d) in
           let ev : Balanced m (rowsOf G 1 (d ∷ ds)) = down (d ∷ ds) (balanced-swap m (rowsOf G 1 ds) (firstRows (G 0) d) (free-balanced m (shareRows G d ds) fits is-free)) in
           let up : free (rowsOf G 1 (d ∷ ds)) ≡ true = balanced-free m (rowsOf G 1 (d ∷ ds)) ev in
           absurd (true≢false (sym up ∙ free-depends-none (rowsOf G 1 (d ∷ ds)) ∙ ap not t))

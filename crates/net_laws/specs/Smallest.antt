@@ -28,7 +28,8 @@ pub record SmallestNet (m p q s t : ℕ) : Type 0 where
 module _ (p : ℕ) (positive : 0 < p) where
   no-digits : (q j h : ℕ) → leading p 0 (coordinate p q j h) ≡ 0
   unfolding leading coordinate
-  no-digits q j h = ap (λ (y : ℕ). quot y p) (mul-one (rem (prod h (power q j)) p)) ∙ quot-small p positive (rem (prod h (power q j)) p) (rem-lt p positive (prod h (power q j)))
+  no-digits q j h = ap (λ (y : ℕ). quot y p) (mul-one (rem (prod h (power q j)) p))
+      ∙ quot-small p positive (rem (prod h (power q j)) p) (rem-lt p positive (prod h (power q j)))
 
   -- every point lies in the box of no digits
   in-whole : (q j h : ℕ) (ds rs : List ℕ) → total ds ≡ 0 → Box ds rs → inBox p q j ds rs h ≡ true

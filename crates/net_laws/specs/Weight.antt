@@ -117,7 +117,8 @@ abbrev pub rowsFrom : (ℕ → ℕ → ℕ) → ℕ → ℕ → List ℕ → Lis
 rowsFrom G zero d ds = rowsOf G 1 ds
 rowsFrom G (suc j) d ds = rowsOf G (suc j) (d ∷ ds)
 
-pub reach-rows : (G : ℕ → ℕ → ℕ) (j d : ℕ) (rs all : List ℕ) → Reach G j d rs all → (ds : List ℕ) → rs ≡ rowsFrom G j d ds → (es : List ℕ) × (all ≡ rowsOf G 1 es) × (length es ≡ j + length ds)
+pub reach-rows : (G : ℕ → ℕ → ℕ) (j d : ℕ) (rs all : List ℕ) → Reach G j d rs all → (ds : List ℕ) → rs ≡ rowsFrom G j d ds
+    → (es : List ℕ) × (all ≡ rowsOf G 1 es) × (length es ≡ j + length ds)
 unfolding rowsOf firstRows
 reach-rows G zero d rs all done ds e = (ds, e, omega arith)
 reach-rows G (suc j) d rs all (skip x) ds e = let r = reach-rows G j 0 rs all x (d ∷ ds) (e ∙ lower j) in (r .0, r .1, omega (arith, r .2))
