@@ -3,3 +3,5 @@ pub mod Place
 pub mod Decimal
 pub mod Rows
 pub mod Lines
+pub mod Line
+pub mod Words

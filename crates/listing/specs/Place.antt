@@ -59,7 +59,7 @@ over-append at a b out h =
     rw (
       take-at (take at out ++ a) (drop (at + length a) out) (at + length a) front,
       ← drop-drop (length b) (at + length a) (take at out ++ a ++ drop (at + length a) out),
-      drop-at (take at out ++ a) (drop (at + length a) out) (at + length a) front
+      drop-at (take at out ++ a) (drop (at + length a) out) (at + length a) front,
     ) (simp (drop-drop, length-append, append-assoc, add-assoc))
 
 -- A byte is stored at the place.
@@ -73,7 +73,7 @@ unfolding over
 over-last at a b out h =
     let k = at + length a in
     let stored : drop k (set out k b) ≡ b ∷ drop (suc k) out =
-        drop-cons (set out k b) k 0 (lt-length-set out k b h) ∙ rw (getD-set-same out k b 0 h, drop-set-lt (suc k) out k b (omega arith)) in
+    drop-cons (set out k b) k 0 (lt-length-set out k b h) ∙ rw (getD-set-same out k b 0 h, drop-set-lt (suc k) out k b (omega arith)) in
     let kept : take at (set out k b) ≡ take at out = take-set-le at out k b (omega arith) in
     let end : at + length (a ++ b ∷ []) ≡ suc k = simp length-append (omega arith) in
     rw (kept, stored, end) (simp append-assoc)

@@ -81,12 +81,11 @@ module _ (row : List ℕ) (i : ℕ) (h : i < length row) where
       let whole = left-turn-length in
       let two = length-append (gap i) (decimal (getD row i 0)) in
       let both = then at (gap i) (decimal (getD row i 0)) out (omega arith) e f u v in
-      let end = both .0 in
-      (
+      let end = both .0 in (
         ap length (both .1) ∙ length-over at (gap i ++ decimal (getD row i 0)) out (omega arith),
         omega arith,
         rw (left-turn, both .0, both .1, ← append-assoc (gap i) (decimal (getD row i 0)) (leftText (i + 1) (drop (i + 1) row)))
-        (over-append at (gap i ++ decimal (getD row i 0)) (leftText (i + 1) (drop (i + 1) row)) out (omega arith))
+            (over-append at (gap i ++ decimal (getD row i 0)) (leftText (i + 1) (drop (i + 1) row)) out (omega arith)),
       )
 
 pub gap-first : {i : ℕ} → i ≡ 0 → gap i ≡ []

@@ -1,11 +1,16 @@
 // The line that is read and the text that is printed, on byte slices. A text is put at a place of a buffer: where it fits, the answer
 // is the place behind it; where it does not, nothing is written and the answer is the place itself.
 ghost use mathlib.Core.Path.{_≡_};
-ghost use Rattle.definitions.specs.Listing.{decimal, headerText, rowText, pageText, totalText, refusedText};
+ghost use Rattle.definitions.specs.Listing.{decimal, headerText, rowText, pageText, totalText, refusedText, readLine};
 ghost use Rattle.listing.specs.Place.{placed, behind};
+
+mod input;
 mod line;
 mod text;
 
+use definitions::Line;
+use input::find;
+use input::read_degree;
 use line::put_line;
 use line::put_long_line;
 use text::digits;
@@ -13,6 +18,14 @@ use text::fits;
 use text::row_fits;
 use text::write_decimal;
 use text::write_row;
+
+// The line that is asked with; what follows a newline is not read.
+pub fn read_line(input: &[u8]) -> Line
+    ensures { λ r. ⌜ r ≡ readLine (now (input .entry)) ⌝ }
+{
+    let end = find(input, 0, b'\n');
+    read_degree(&input[..end])
+}
 
 // The decimal digits of n.
 pub fn put_decimal(out: &mut [u8], at: usize, n: u32) -> usize

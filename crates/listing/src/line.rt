@@ -37,7 +37,15 @@ pub fn put_line(out: &mut [u8], at: usize, word: &[u8], n: u32) -> usize
 }
 
 // Two words with their numbers and an ending.
-pub fn write_long_line(out: &mut [u8], at: usize, word: &[u8], n: u32, other: &[u8], k: u32, ending: &[u8]) -> usize
+pub fn write_long_line(
+    out: &mut [u8],
+    at: usize,
+    word: &[u8],
+    n: u32,
+    other: &[u8],
+    k: u32,
+    ending: &[u8],
+) -> usize
     requires { ⌜ at + length (longLine (now word) n (now other) k (now ending)) ≤ length (now out) ⌝ }
     ensures { λ r. ⌜ r ≡ at + length (longLine (now (word .entry)) n (now (other .entry)) k (now (ending .entry))) ⌝ }
     ensures { λ _. ⌜ now (out .exit) ≡ over at (longLine (now (word .entry)) n (now (other .entry)) k (now (ending .entry))) (now (out .entry)) ⌝ }
@@ -48,12 +56,24 @@ pub fn write_long_line(out: &mut [u8], at: usize, word: &[u8], n: u32, other: &[
 }
 
 // A line of two words with their numbers and an ending.
-pub fn put_long_line(out: &mut [u8], at: usize, word: &[u8], n: u32, other: &[u8], k: u32, ending: &[u8]) -> usize
+pub fn put_long_line(
+    out: &mut [u8],
+    at: usize,
+    word: &[u8],
+    n: u32,
+    other: &[u8],
+    k: u32,
+    ending: &[u8],
+) -> usize
     requires { ⌜ length (now word) + length (now other) + length (now ending) ≤ 32 ⌝ }
     ensures { λ r. ⌜ r ≡ behind at (longLine (now (word .entry)) n (now (other .entry)) k (now (ending .entry))) (now (out .entry)) ⌝ }
     ensures { λ _. ⌜ now (out .exit) ≡ placed at (longLine (now (word .entry)) n (now (other .entry)) k (now (ending .entry))) (now (out .entry)) ⌝ }
 {
-    if fits(out, at, word.len() + digits(n) + other.len() + digits(k) + ending.len()) {
+    if fits(
+        out,
+        at,
+        word.len() + digits(n) + other.len() + digits(k) + ending.len(),
+    ) {
         write_long_line(out, at, word, n, other, k, ending)
     } else {
         at

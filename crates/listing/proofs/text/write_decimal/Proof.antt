@@ -49,12 +49,11 @@ loop-again : tie.Need-loop-again Inv-loop μ-loop
 loop-again c =
     let now = c .before .loop in
     let large = c .loop-test .taken in
-    let fewer = decimal-length-more (now .rest) large in
-    (
+    let fewer = decimal-length-more (now .rest) large in (
       simp length-set (now .inv .0),
       omega arith,
       omega arith,
-      decimal-turn (c .before .before .before .before .args .at) (now .place) (now .rest) (now .out) large (now .inv .1) (omega arith) ∙ now .inv .3
+      decimal-turn (c .before .before .before .before .args .at) (now .place) (now .rest) (now .out) large (now .inv .1) (omega arith) ∙ now .inv .3,
     )
 
 cast-out-2 : tie.Need-cast-out-2 Inv-loop μ-loop
@@ -71,10 +70,9 @@ same-length c = simp length-set (c .before .loop .inv .0)
 
 returns : tie.Need-returns Inv-loop μ-loop
 returns c =
-    let now = c .before .loop in
-    (
+    let now = c .before .loop in (
       omega (arith, c .before .before .digits .ensures),
-      decimal-last (c .before .before .before .before .args .at) (now .rest) (now .out) (c .loop-test .left) (omega (arith, decimal-some (now .rest))) ∙ now .inv .3
+      decimal-last (c .before .before .before .before .args .at) (now .rest) (now .out) (c .loop-test .left) (omega (arith, decimal-some (now .rest))) ∙ now .inv .3,
     )
 
 pub write-decimal-spec : {M : Type 1} → statement M

@@ -59,7 +59,7 @@ loop-again c =
     let here = turn .before .loop in
     let row = now (turn .before .before .before .before .args .row) in
     let step = left-turn-step row (here .i) (turn .loop-test .taken) (here .place) (here .out) (omega arith)
-        (spaced .write-gap .ensures .0) (spaced .write-gap .ensures .1) (wrote .write-decimal .ensures .0) (wrote .write-decimal .ensures .1) in
+    (spaced .write-gap .ensures .0) (spaced .write-gap .ensures .1) (wrote .write-decimal .ensures .0) (wrote .write-decimal .ensures .1) in
     (omega arith, step .0 ∙ here .inv .1, step .1 ∙ here .inv .2, step .2 ∙ here .inv .3)
 
 slice-write-out : tie.Need-slice-write-out Inv-loop μ-loop
@@ -80,10 +80,9 @@ returns c =
     let here = c .before .loop in
     let row = now (c .before .before .before .before .args .row) in
     let end = left-end row (here .i) (c .loop-test .left) in
-    let one = ap length end in
-    (
+    let one = ap length end in (
       omega arith,
-      over-byte (here .place) newline (here .out) (omega arith) ∙ rw end at (here .inv .3)
+      over-byte (here .place) newline (here .out) (omega arith) ∙ rw end at (here .inv .3),
     )
 
 pub write-row-spec : {M : Type 1} → statement M

@@ -36,11 +36,10 @@ loop-less c = omega arith
 
 loop-again : tie.Need-loop-again Inv-loop μ-loop
 loop-again c =
-    let now = c .before .before .loop in
-    (
+    let now = c .before .before .loop in (
       omega arith,
       simp length-set (now .inv .1),
-      over-turn (c .before .before .before .args .at) _ (now .i) (now .out) (c .before .loop-test .taken) (omega arith) ∙ now .inv .2
+      over-turn (c .before .before .before .args .at) _ (now .i) (now .out) (c .before .loop-test .taken) (omega arith) ∙ now .inv .2,
     )
 
 add-result : tie.Need-add-result Inv-loop μ-loop
