@@ -9,5 +9,6 @@ pub mod Ranking
 pub mod Answers
 pub mod Calls
 pub mod Examples
+pub mod Honest
 pub mod Catalogue
 pub mod Listing

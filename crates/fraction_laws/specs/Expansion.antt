@@ -9,7 +9,7 @@ use native.Mathlib.Omega.{arith}
 use lib.Pow.{pow-mono}
 use Rattle.definitions.specs.Polynomial.{_⊕_, degree, prod, quot, rem}
 use Rattle.definitions.specs.Generator.{Expansion, found, expansionWithin, expansion, Pair, child}
-use Rattle.polynomial_laws.specs.Degree.{HasDegree, degree-is, exponents}
+use Rattle.polynomial_laws.specs.Degree.{degree-is, exponents}
 use Rattle.polynomial_laws.specs.Division.{rem-lt}
 use Rattle.polynomial_laws.specs.Product.{division, quot-unique, rem-unique, prod-zero, prod-one, prod-⊕, prod-left-comm}
 use Rattle.polynomial_laws.specs.ProductDegree.{quotient-degree}

@@ -1,21 +1,20 @@
 -- Partial quotients of degree one. The computed test holds just where every quotient is x or x + 1 and the common factor is 1; then there are
 -- as many quotients as p has degree. Euclid's steps decide the test one quotient at a time, each by a difference of degrees.
 -- Assumes nothing.
-use mathlib.Core.Path.{_≡_, refl, ap, _∙_, subst}
+use mathlib.Core.Path.{_≡_, refl, ap, subst}
 use mathlib.Core.Logic.{_↔_, _⊎_, inl, inr}
-use mathlib.Core.Bool.{Bool, true, _&&_, and-eq-true-iff, and-assoc}
+use mathlib.Core.Bool.{true, _&&_, and-eq-true-iff, and-assoc}
 use mathlib.Core.List.{List, [], _∷_}
-use Prim.Native.Nat.{ℕ, zero, suc, _+_, _-_, _*_, _^_, _≤_, _<_}
-use native.Mathlib.Nat.{zero-lt-suc, add-comm}
+use Prim.Native.Nat.{ℕ, zero, suc, _-_, _^_, _<_}
+use native.Mathlib.Nat.{zero-lt-suc}
 use native.Mathlib.Omega.{arith}
-use lib.Pow.{pow-mono}
 use lib.Dec.{eqb}
 use lib.ListN.{length}
 use borrow.Author.Tests.{eqb-true}
 use Rattle.definitions.specs.Polynomial.{degree, quot, rem}
 use Rattle.definitions.specs.Generator.{Expansion, found, expansion, allLinear, linearQuotients, Pair}
 use Rattle.polynomial_laws.specs.Degree.{HasDegree, degree-is, degree-unique, degree-zero, degree-one}
-use Rattle.fraction_laws.specs.Expansion.{expansion-zero, expansion-more, totalDegree, degrees-add, quotient-drop}
+use Rattle.fraction_laws.specs.Expansion.{expansion-more, totalDegree, degrees-add, quotient-drop}
 use Rattle.fraction_laws.specs.WellFormed.{Proper, proper-degree, proper-positive}
 
 -- Every quotient has degree one.

@@ -6,8 +6,11 @@ use mathlib.Core.Logic.{_≢_}
 use mathlib.Core.Bool.{Bool, true, _&&_, and-eq-true-iff}
 use mathlib.Core.List.{List, List·Memᴰ}
 use Prim.Native.Nat.{ℕ, zero, suc, _*_, _/_, _≤_, _<_, _∣_}
-use native.Mathlib.Nat.{dvd-trans, dvd-mul-right, dvd-mul-left, mul-div-cancel', mul-div-assoc, mul-one}
+use native.Mathlib.Nat.{dvd-trans, dvd-mul-right, dvd-mul-left, mul-div-cancel', mul-div-assoc, mul-one, le-of-dvd, div-mul-cancel, div-lt-self, pos-of-dvd-of-pos}
 use native.Mathlib.Omega.{arith}
+use native.Mathlib.Decide.{decLe}
+use Rattle.definitions.specs.Number.{gcd}
+use Rattle.number_laws.specs.Gcd.{gcd-divides, gcd-positive, coprime-divides, divided-multiple}
 use Rattle.number_laws.specs.Lists.{allIn, allIn-out}
 use Rattle.number_laws.specs.Primes.{PrimeDivisors, prime-divisor, primeFactors, prime-factors}
 
@@ -51,3 +54,25 @@ lists-primes N l pos t =
       each = λ r m. known .each r (allIn-out l (primeFactors N) (both .0) r m);
       all = λ r p h. allIn-out (primeFactors N) l (both .1) r (known .all r p h);
     }
+
+-- s is coprime to N exactly where N divides no s-fold of N / r, r a prime divisor: a common prime r would make it (s / r) N.
+module _ (N : ℕ) (l : List ℕ) (pos : 0 < N) (h : PrimeDivisors N l) (s : ℕ) where
+  pub coprime-apart : gcd s N ≡ 1 → (r : ℕ) → List·Memᴰ r l → ¬ (N ∣ N / r * s)
+  coprime-apart e r m k =
+      let p = h .each r m in
+      let n : N ∣ N / r = coprime-divides N s (N / r) e k in
+      let q : N / r * r ≡ N = div-mul-cancel r (p .1) in
+      let part : N / r ∣ N = rw q at (dvd-mul-right (N / r) r) in
+      let small : N / r < N = div-lt-self pos (p .0 .above) in
+      omega (arith, le-of-dvd (pos-of-dvd-of-pos part pos) n)
+
+  pub apart-coprime : ((r : ℕ) → List·Memᴰ r l → ¬ (N ∣ N / r * s)) → gcd s N ≡ 1
+  apart-coprime apart = go (decLe 2 (gcd s N))
+    where
+      go : Dec (2 ≤ gcd s N) → gcd s N ≡ 1
+      go (yes two) =
+          let (r, p, k) = prime-divisor (gcd s N) two in
+          let a : r ∣ s = dvd-trans r k (gcd-divides s N .0) in
+          let b : r ∣ N = dvd-trans r k (gcd-divides s N .1) in
+          absurd (apart r (h .all r p b) (divided-multiple r N s b a))
+      go (no two) = omega (arith, gcd-positive s N pos)

@@ -1,4 +1,5 @@
 -- Laws of numbers and lists: greatest common divisors, the first number that passes a test, counting, primes, pigeonhole.
+pub mod Truth
 pub mod Gcd
 pub mod First
 pub mod Every

@@ -1,0 +1,80 @@
+-- Laws that keep the definitions honest: what a reader would check first. By the definitions' own cases. Assumes nothing.
+use mathlib.Core.Path.{_≡_, refl, sym, ap, _∙_}
+use mathlib.Core.Bool.{Bool, true, false, _&&_, and-eq-true-iff}
+use mathlib.Core.List.{List, [], _∷_}
+use Prim.Native.Nat.{ℕ, zero, suc, _+_, _≤_, _<_}
+use native.Mathlib.Nat.{le-refl}
+use native.Mathlib.Omega.{arith}
+use lib.Dec.{eqb, ltb}
+use lib.ListN.{length, take}
+use lib.Seq.{take-all, length-take-le}
+use borrow.Author.Tests.{ltb-true, ltb-false, eqb-true}
+use Rattle.definitions.specs.Number.{first}
+use Rattle.definitions.specs.Generator.{expansion, allLinear, linearQuotients}
+use Rattle.definitions.specs.Net.{isNet, tValue}
+use Rattle.definitions.specs.Pages.{Place, rest, page, more}
+use Rattle.definitions.specs.Answers.{Situation, unless}
+use Rattle.definitions.specs.Calls.{paging, pageAnswer, pageSlice, pageRows, furtherRow, pointing, pointsAnswer, pointsSlice}
+use Rattle.definitions.specs.declared.Refusal.{Refusal}
+use Rattle.definitions.specs.declared.PageRequest.{PageRequest}
+use Rattle.definitions.specs.declared.PageAnswer.{PageAnswer}
+use Rattle.definitions.specs.declared.PageAnswer.the-variants.{Page, NoPage}
+use Rattle.definitions.specs.declared.PointsAnswer.{PointsAnswer}
+use Rattle.definitions.specs.declared.PointsAnswer.the-variants.{Written, NotWritten}
+
+-- What holds of two answers to one list of situations, refused alike or both given.
+pub unless-both : {A B : Type 0} (P : A → B → Type 0) (l : List Situation) (refuse : Refusal → A) (value : A) (refuse′ : Refusal → B) (value′ : B)
+    → ((r : Refusal) → P (refuse r) (refuse′ r)) → P value value′ → P (unless l refuse value) (unless l refuse′ value′)
+unfolding unless
+unless-both P [] refuse value refuse′ value′ refused given = given
+unless-both P (s ∷ l) refuse value refuse′ value′ refused given = go (s .applies) (unless-both P l refuse value refuse′ value′ refused given)
+  where
+    go : (b : Bool) → P (unless l refuse value) (unless l refuse′ value′)
+        → P (elim b [ true ↦ refuse (s .refusal) | false ↦ unless l refuse value ]) (elim b [ true ↦ refuse′ (s .refusal) | false ↦ unless l refuse′ value′ ])
+    go true ih = refused (s .refusal)
+    go false ih = ih
+
+-- A refused page leaves the slice as it was.
+pub refused-page-keeps : (r : PageRequest) (s : List ℕ) (n : Refusal) → pageAnswer r s ≡ NoPage n → pageSlice r s ≡ s
+unfolding pageAnswer pageSlice
+refused-page-keeps r s n =
+    unless-both (λ a o. a ≡ NoPage n → o ≡ s) (paging r s) NoPage _ (λ (k : Refusal). s) _ (λ k e. refl)
+    (λ (e : Page (length (pageRows r s)) (furtherRow r s) ≡ NoPage n). let z : _≡_ {A = ℕ} 0 1 = cc in absurd (omega arith))
+
+-- A refused call for points leaves the slice as it was.
+pub refused-points-keep : (m p q i : ℕ) (s : List ℕ) (n : Refusal) → pointsAnswer m p q i s ≡ NotWritten n → pointsSlice m p q i s ≡ s
+unfolding pointsAnswer pointsSlice
+refused-points-keep m p q i s n =
+    unless-both (λ a o. a ≡ NotWritten n → o ≡ s) (pointing m p q i) NotWritten _ (λ (k : Refusal). s) _ (λ k e. refl)
+    (λ e. let z : _≡_ {A = ℕ} 0 1 = cc in absurd (omega arith))
+
+-- A page that says that nothing follows has every row above its place.
+pub end-has-all : {X : Type 0} (key : X → List ℕ) (at : Place) (k : ℕ) (l : List X) → more key at k l ≡ false → page key at k l ≡ rest key at l
+unfolding more page
+end-has-all key at k l e = take-all k (rest key at l) (ltb-false k (length (rest key at l)) e)
+
+-- A page that says that a row follows has left one out.
+pub more-leaves-out : {X : Type 0} (key : X → List ℕ) (at : Place) (k : ℕ) (l : List X) → more key at k l ≡ true → length (page key at k l) < length (rest key at l)
+unfolding more page
+more-leaves-out key at k l e =
+    let h = ltb-true k (length (rest key at l)) e in
+    omega (arith, length-take-le k (rest key at l) (omega arith))
+
+-- Where the quotients are linear there is no common factor.
+pub linear-no-common : (p q : ℕ) → linearQuotients p q ≡ true → expansion p q .common ≡ 1
+unfolding linearQuotients
+linear-no-common p q e = eqb-true (expansion p q .common) 1 (and-eq-true-iff (allLinear (expansion p q .quotients)) (eqb (expansion p q .common) 1) .0 e .1)
+
+first-at-most : (n a : ℕ) (test : ℕ → Bool) → first n a test ≤ a + n
+unfolding first
+first-at-most zero a test = omega arith
+first-at-most (suc n) a test = go (test a) (first-at-most n (suc a) test)
+  where
+    go : (b : Bool) → first n (suc a) test ≤ suc a + n → elim b [ true ↦ a | false ↦ first n (suc a) test ] ≤ a + suc n
+    go true ih = omega arith
+    go false ih = omega arith
+
+-- t is in 0..m.
+pub t-value-at-most : (m p q s : ℕ) → tValue m p q s ≤ m
+unfolding tValue
+t-value-at-most m p q s = omega (arith, first-at-most m 0 (isNet m p q s))

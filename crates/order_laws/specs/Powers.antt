@@ -1,0 +1,36 @@
+-- The exponents e with x^e ≡ 1 (mod p) hold remainders and multiples: x^(kb + a) ≡ x^a where x^b ≡ 1.
+-- Assumes nothing.
+use mathlib.Core.Path.{_≡_, sym, ap, _∙_}
+use Prim.Native.Nat.{ℕ, zero, suc, _+_, _*_, _/_, _%_, _^_, _≤_, _∣_}
+use native.Mathlib.Nat.{zero-add, zero-mul, mod-eq-zero-of-dvd, div-add-mod'}
+use native.Mathlib.Omega.{arith}
+use Rattle.definitions.specs.Polynomial.{rem}
+use Rattle.polynomial_laws.specs.Product.{one-prod, rem-rem}
+use Rattle.polynomial_laws.specs.Power.{rem-one, rem-power-add}
+use Rattle.order_laws.specs.Exponents.{Smallest, Closed}
+
+-- x^e ≡ 1 (mod p).
+abbrev pub Returns : ℕ → ℕ → Type 0
+Returns p e = rem (2 ^ e) p ≡ 1
+
+-- n is the order of x modulo p: the smallest e ≥ 1 with x^e ≡ 1.
+abbrev pub IsOrder : ℕ → ℕ → Type 0
+IsOrder p n = Smallest (Returns p) n
+
+module _ (p : ℕ) (big : 2 ≤ p) where
+  pub returns-add : (a b : ℕ) → Returns p b → rem (2 ^ (b + a)) p ≡ rem (2 ^ a) p
+  returns-add a b h = rw (rem-power-add p big, h, one-prod) (rem-rem p (omega arith) (2 ^ a))
+
+  pub returns-mul : (k b a : ℕ) → Returns p b → rem (2 ^ (k * b + a)) p ≡ rem (2 ^ a) p
+  returns-mul zero b a h = rw (zero-mul, zero-add)
+  returns-mul (suc k) b a h = ap (λ e. rem (2 ^ e) p) (omega arith) ∙ returns-add (k * b + a) b h ∙ returns-mul k b a h
+
+  -- Exponents may be reduced modulo one that returns.
+  pub returns-mod : (a b : ℕ) → Returns p b → rem (2 ^ (a % b)) p ≡ rem (2 ^ a) p
+  returns-mod a b h = sym (rw div-add-mod' at (returns-mul (a / b) b (a % b) h))
+
+  pub returns-multiple : (a b : ℕ) → b ∣ a → Returns p b → Returns p a
+  returns-multiple a b d h = sym (returns-mod a b h) ∙ rw (mod-eq-zero-of-dvd b d) (rem-one p big)
+
+  pub returns-closed : Closed (Returns p)
+  returns-closed = record { remainder = λ a b h k. returns-mod a b k ∙ h; multiple = returns-multiple }

@@ -1,0 +1,1 @@
+// Laws of orders: primitive polynomials, the full cycle, the step. No functions.
