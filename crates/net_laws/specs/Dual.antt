@@ -12,7 +12,7 @@ use Rattle.definitions.specs.Number.{count, bit}
 use Rattle.definitions.specs.Polynomial.{_⊕_, degree, prod, power, quot, rem}
 use Rattle.definitions.specs.Points.{leading, coordinate}
 use Rattle.polynomial_laws.specs.Sum.{⊕-double, ⊕-shr, ⊕-equal, ⊕-lt}
-use Rattle.polynomial_laws.specs.Division.{timesX, rem-lt, rem-small, rem-⊕, rem-double, quot-small}
+use Rattle.polynomial_laws.specs.Division.{timesX, timesX-rem, rem-lt, rem-small, rem-⊕, rem-double, quot-small}
 use Rattle.polynomial_laws.specs.Product.{⊕-prod, prod-⊕, prod-comm, prod-assoc, prod-one, one-prod, double-prod, quot-double, rem-prod-left, rem-prod-right}
 use Rattle.polynomial_laws.specs.Power.{power-prod, power-zero, power-suc}
 use Rattle.number_laws.specs.Count.{count-permute}
@@ -23,9 +23,9 @@ use Rattle.net_laws.specs.Pattern.{Digits}
 -- ---- definitions
 
 -- Row i of coordinate j: x^i q^j mod p.
-unfoldable pub row : ℕ → ℕ → ℕ → ℕ → ℕ
+unfoldable pub digitRow : ℕ → ℕ → ℕ → ℕ → ℕ
 unfolding rem prod power
-row p q j i = rem (prod (2 ^ i) (power q j)) p
+digitRow p q j i = rem (prod (2 ^ i) (power q j)) p
 
 -- The top coefficient of r h mod p, brought up by one more x.
 unfoldable pub topDigit : ℕ → ℕ → ℕ → Bool
@@ -37,36 +37,39 @@ unfoldable pub image : ℕ → ℕ → ℕ
 unfolding rowFor topDigit degree
 image p h = rowFor (degree p) (topDigit p h)
 
-pub row-def : (p q j i : ℕ) → row p q j i ≡ rem (prod (2 ^ i) (power q j)) p
-unfolding row
-row-def p q j i = refl
+pub digitRow-def : (p q j i : ℕ) → digitRow p q j i ≡ rem (prod (2 ^ i) (power q j)) p
+unfolding digitRow
+digitRow-def p q j i = refl
 
-pub row-first : (p q j : ℕ) → row p q j 0 ≡ rem (power q j) p
-row-first p q j = rw (row-def, one-prod)
+pub digitRow-first : (p q j : ℕ) → digitRow p q j 0 ≡ rem (power q j) p
+digitRow-first p q j = rw (digitRow-def, one-prod)
 
 module _ (p : ℕ) (pos : 0 < p) where
   -- ---- the rows
-  pub row-lt : (q j i : ℕ) → row p q j i < 2 ^ degree p
-  row-lt q j i = rw row-def (rem-lt p pos (prod (2 ^ i) (power q j)))
+  pub digitRow-lt : (q j i : ℕ) → digitRow p q j i < 2 ^ degree p
+  digitRow-lt q j i = rw digitRow-def (rem-lt p pos (prod (2 ^ i) (power q j)))
 
   -- one more x
-  pub row-suc : (q j i : ℕ) → row p q j (suc i) ≡ timesX p (row p q j i)
-  row-suc q j i = rw (row-def p q j (suc i), row-def p q j i, pow-succ' 2 i, double-prod) (rem-double p pos (prod (2 ^ i) (power q j)))
+  pub digitRow-suc : (q j i : ℕ) → digitRow p q j (suc i) ≡ timesX p (digitRow p q j i)
+  digitRow-suc q j i = rw (digitRow-def p q j (suc i), digitRow-def p q j i, pow-succ' 2 i, double-prod) (rem-double p pos (prod (2 ^ i) (power q j)))
+
+  pub digitRow-double : (q j i : ℕ) → digitRow p q j (suc i) ≡ rem (2 * digitRow p q j i) p
+  digitRow-double q j i = digitRow-suc q j i ∙ timesX-rem p pos (digitRow p q j i) (digitRow-lt q j i)
 
   -- one more q
-  pub row-next : (q j : ℕ) → row p q (suc j) 0 ≡ rem (prod q (row p q j 0)) p
-  row-next q j = rw (row-first p q (suc j), row-first p q j, power-suc) (sym (rem-prod-right p pos q (power q j)))
+  pub digitRow-next : (q j : ℕ) → digitRow p q (suc j) 0 ≡ rem (prod q (digitRow p q j 0)) p
+  digitRow-next q j = rw (digitRow-first p q (suc j), digitRow-first p q j, power-suc) (sym (rem-prod-right p pos q (power q j)))
 
   -- coordinate 0 has the powers of x
-  pub row-power : (q i : ℕ) → i < degree p → row p q 0 i ≡ 2 ^ i
-  row-power q i l = rw (row-def, power-zero, prod-one) (rem-small p pos (2 ^ i) (pow-lt l))
+  pub digitRow-power : (q i : ℕ) → i < degree p → digitRow p q 0 i ≡ 2 ^ i
+  digitRow-power q i l = rw (digitRow-def, power-zero, prod-one) (rem-small p pos (2 ^ i) (pow-lt l))
 
-  pub row-coordinate : (q j i h : ℕ) → rem (prod (row p q j i) h) p ≡ rem (coordinate p q j h * 2 ^ i) p
+  pub digitRow-coordinate : (q j i h : ℕ) → rem (prod (digitRow p q j i) h) p ≡ rem (coordinate p q j h * 2 ^ i) p
   unfolding coordinate
-  row-coordinate q j i h =
+  digitRow-coordinate q j i h =
       let a = prod (2 ^ i) (power q j) in
       let c = prod h (power q j) in
-      ap (λ (z : ℕ). rem (prod z h) p) (row-def p q j i) ∙ rem-prod-left p pos a h
+      ap (λ (z : ℕ). rem (prod z h) p) (digitRow-def p q j i) ∙ rem-prod-left p pos a h
       ∙ ap (λ (z : ℕ). rem z p) (prod-assoc (2 ^ i) (power q j) h ∙ ap (prod (2 ^ i)) (prod-comm (power q j) h))
       ∙ sym (ap (λ (z : ℕ). rem z p) (mul-comm (rem c p) (2 ^ i) ∙ sym (power-prod i (rem c p))) ∙ rem-prod-right p pos (2 ^ i) c)
 
@@ -98,7 +101,7 @@ module _ (p : ℕ) (pos : 0 < p) where
   unfolding coordinate
   coordinate-lt q j h = rem-lt p pos (prod h (power q j))
 
-  pub point-digits : (q h : ℕ) → Digits (pointDigits p q) (row p q) (image p) h
+  pub point-digits : (q h : ℕ) → Digits (pointDigits p q) (digitRow p q) (image p) h
   unfolding leading topDigit
   point-digits q h j = (
     rw (mul-one (coordinate p q j h)) (quot-small p pos (coordinate p q j h) (coordinate-lt q j h)),
@@ -106,8 +109,8 @@ module _ (p : ℕ) (pos : 0 < p) where
         let y = coordinate p q j h * 2 ^ d in
         let e : coordinate p q j h * 2 ^ suc d ≡ 2 * y = omega (arith, ap (λ (z : ℕ). coordinate p q j h * z) (pow-suc 2 d)) in
         let n = 2 * rem y p / 2 ^ degree p in
-        let r : parity (row p q j d) (image p h) ≡ odd n =
-        image-parity h (row p q j d) (row-lt q j d) ∙ ap (λ (z : ℕ). odd (2 * z / 2 ^ degree p)) (row-coordinate q j d h) in
+        let r : parity (digitRow p q j d) (image p h) ≡ odd n =
+        image-parity h (digitRow p q j d) (digitRow-lt q j d) ∙ ap (λ (z : ℕ). odd (2 * z / 2 ^ degree p)) (digitRow-coordinate q j d h) in
         let b : n < 2 = top-lt y in
         ap (λ (z : ℕ). quot z p) e ∙ quot-double p y ∙ omega (arith, is-bit n b, ap bit r),
   )

@@ -27,7 +27,7 @@ use Rattle.net_laws.specs.Pattern.{firstRows, rowsOf, meets-append, spli
 use Rattle.net_laws.specs.Share.{shareRows, depends, shareRows-depends, free-depends-none, each-rows, each-firstRows}
 use Rattle.net_laws.specs.Search.{Reach, done}
 use Rattle.net_laws.specs.Weight.{Least, Sound, rows-reach, reach-rows, rowsFrom-none}
-use Rattle.net_laws.specs.Dual.{row, row-lt, row-power, row-coordinate, topDigit, image, image-parity, image-count}
+use Rattle.net_laws.specs.Dual.{digitRow, digitRow-lt, digitRow-power, digitRow-coordinate, topDigit, image, image-parity, image-count}
 
 -- ---- the order of two blocks of rows does not matter
 balanced-swap : (m : ℕ) (rs ss : List ℕ) → Balanced m (rs ++ ss) → Balanced m (ss ++ rs)
@@ -130,29 +130,29 @@ module _ (p : ℕ) (pos : 0 < p) (q r : ℕ) (inverse : rem (prod r q) p ≡ rem
       ap (λ (z : ℕ). rem z p) (ap (prod h) (power-suc q j) ∙ sym (prod-assoc h q (power q j)) ∙ ap (λ (z : ℕ). prod z (power q j)) (prod-comm h q))
       ∙ sym (rem-prod-left p pos (prod q h) (power q j))
 
-  parity-moved : (h j i : ℕ) → parity (row p q (suc j) i) (image p h) ≡ parity (row p q j i) (image p (moved h))
+  parity-moved : (h j i : ℕ) → parity (digitRow p q (suc j) i) (image p h) ≡ parity (digitRow p q j i) (image p (moved h))
   unfolding topDigit
   parity-moved h j i =
-      image-parity p pos h (row p q (suc j) i) (row-lt p pos q (suc j) i)
+      image-parity p pos h (digitRow p q (suc j) i) (digitRow-lt p pos q (suc j) i)
       ∙ ap (λ (z : ℕ). odd (2 * z / 2 ^ degree p))
-      (row-coordinate p pos q (suc j) i h ∙ ap (λ (z : ℕ). rem (z * 2 ^ i) p) (coordinate-moved j h) ∙ sym (row-coordinate p pos q j i (moved h)))
-      ∙ sym (image-parity p pos (moved h) (row p q j i) (row-lt p pos q j i))
+      (digitRow-coordinate p pos q (suc j) i h ∙ ap (λ (z : ℕ). rem (z * 2 ^ i) p) (coordinate-moved j h) ∙ sym (digitRow-coordinate p pos q j i (moved h)))
+      ∙ sym (image-parity p pos (moved h) (digitRow p q j i) (digitRow-lt p pos q j i))
 
-  balanced-down : (ds : List ℕ) → Balanced (degree p) (rowsOf (row p q) 0 ds) → Balanced (degree p) (rowsOf (row p q) 1 ds)
+  balanced-down : (ds : List ℕ) → Balanced (degree p) (rowsOf (digitRow p q) 0 ds) → Balanced (degree p) (rowsOf (digitRow p q) 1 ds)
   unfolding Balanced moved
   balanced-down ds ev bs l =
       let n = 2 ^ degree p in
-      let low = rowsOf (row p q) 0 ds in
-      let high = rowsOf (row p q) 1 ds in
-      let len : length high ≡ length low = length-rows (row p q) ds 1 ∙ sym (length-rows (row p q) ds 0) in
+      let low = rowsOf (digitRow p q) 0 ds in
+      let high = rowsOf (digitRow p q) 1 ds in
+      let len : length high ≡ length low = length-rows (digitRow p q) ds 1 ∙ sym (length-rows (digitRow p q) ds 0) in
       let P : ℕ → Bool = λ h. meets low bs (image p h) in
       let same : count n (meets high bs) ≡ count n (meets low bs) =
       sym (image-count p pos (meets high bs))
       ∙ count-ext n (λ h. meets high bs (image p h)) (λ h. P (moved h))
-      (λ h k. same-meets (image p h) (image p (moved h)) high low (same-rows (image p h) (image p (moved h)) (row p q) (parity-moved h) ds 0) bs)
+      (λ h k. same-meets (image p h) (image p (moved h)) high low (same-rows (image p h) (image p (moved h)) (digitRow p q) (parity-moved h) ds 0) bs)
       ∙ count-permute n moved (λ h k. rem-lt p pos (prod q h)) moved-injective P
       ∙ image-count p pos (meets low bs) in
       rw (same, len) (ev bs (l ∙ len))
 
-  pub sound-inverse : Sound (row p q) (degree p) 2
-  sound-inverse = sound-two (degree p) (row p q) (row-lt p pos q) (row-power p pos q) balanced-down
+  pub sound-inverse : Sound (digitRow p q) (degree p) 2
+  sound-inverse = sound-two (degree p) (digitRow p q) (digitRow-lt p pos q) (digitRow-power p pos q) balanced-down

@@ -14,3 +14,4 @@ pub mod Value
 pub mod Dual
 pub mod Inverse
 pub mod TValue
+pub mod Smallest

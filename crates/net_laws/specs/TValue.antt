@@ -16,7 +16,7 @@ use Rattle.number_laws.specs.First.{first-to}
 use Rattle.net_laws.specs.Net.{NetOf, isNet-net, net-netOf, pointDigits}
 use Rattle.net_laws.specs.Weight.{weight, weight-one, weight-suc, level, level-le, Sound, sound-one, weight-least}
 use Rattle.net_laws.specs.Value.{LeastShare, first-least, first-weight, least-share}
-use Rattle.net_laws.specs.Dual.{row, row-lt, row-power, point-digits, image, image-count}
+use Rattle.net_laws.specs.Dual.{digitRow, digitRow-lt, digitRow-power, point-digits, image, image-count}
 use Rattle.net_laws.specs.Inverse.{sound-inverse}
 
 netTest : (m p q j t : ℕ) → (isNet m p q (suc j) t ≡ true) ↔ NetOf (pointDigits p q) m (suc j) t
@@ -27,7 +27,7 @@ netTest m p q j t = (
 
 -- A bound at which the search may stop.
 abbrev pub StopBound : ℕ → ℕ → ℕ → ℕ → Type 0
-StopBound m p q f = Sound (row p q) m f
+StopBound m p q f = Sound (digitRow p q) m f
 
 module _ (m p : ℕ) (of : HasDegree p m) where
   positive : 0 < p
@@ -36,38 +36,38 @@ module _ (m p : ℕ) (of : HasDegree p m) where
   same : degree p ≡ m
   same = degree-unique p m of
 
-  pub tValue-least : (q j W : ℕ) → LeastShare (row p q) m j W → tValue m p q (suc j) ≡ suc m - W
+  pub tValue-least : (q j W : ℕ) → LeastShare (digitRow p q) m j W → tValue m p q (suc j) ≡ suc m - W
   unfolding tValue
-  tValue-least q j W = subst (λ (m : ℕ). LeastShare (row p q) m j W → tValue m p q (suc j) ≡ suc m - W) same at
+  tValue-least q j W = subst (λ (m : ℕ). LeastShare (digitRow p q) m j W → tValue m p q (suc j) ≡ suc m - W) same at
     where
-      at : LeastShare (row p q) (degree p) j W → tValue (degree p) p q (suc j) ≡ suc (degree p) - W
+      at : LeastShare (digitRow p q) (degree p) j W → tValue (degree p) p q (suc j) ≡ suc (degree p) - W
       at L =
-          first-least (degree p) (pointDigits p q) (row p q) (image p) (λ h l. point-digits p positive q h) (image-count p positive)
-          (row-lt p positive q) (row-power p positive q) j W L (isNet (degree p) p q (suc j)) (netTest (degree p) p q j)
+          first-least (degree p) (pointDigits p q) (digitRow p q) (image p) (λ h l. point-digits p positive q h) (image-count p positive)
+          (digitRow-lt p positive q) (digitRow-power p positive q) j W L (isNet (degree p) p q (suc j)) (netTest (degree p) p q j)
 
-  weight-leastShare : (q f room j : ℕ) → m ≤ room → StopBound m p q f → LeastShare (row p q) m j (weight (row p q) f room m j)
+  weight-leastShare : (q f room j : ℕ) → m ≤ room → StopBound m p q f → LeastShare (digitRow p q) m j (weight (digitRow p q) f room m j)
   weight-leastShare q f room j fits low =
-      least-share (row p q) m (subst (λ (m : ℕ). (i : ℕ) → i < m → row p q 0 i ≡ 2 ^ i) same (row-power p positive q))
-      j (weight (row p q) f room m j) (weight-least (row p q) m f room fits low j)
+      least-share (digitRow p q) m (subst (λ (m : ℕ). (i : ℕ) → i < m → digitRow p q 0 i ≡ 2 ^ i) same (digitRow-power p positive q))
+      j (weight (digitRow p q) f room m j) (weight-least (digitRow p q) m f room fits low j)
 
-  pub tValue-weight : (q f room j : ℕ) → m ≤ room → StopBound m p q f → tValue m p q (suc j) ≡ suc m - weight (row p q) f room m j
-  tValue-weight q f room j fits low = tValue-least q j (weight (row p q) f room m j) (weight-leastShare q f room j fits low)
+  pub tValue-weight : (q f room j : ℕ) → m ≤ room → StopBound m p q f → tValue m p q (suc j) ≡ suc m - weight (digitRow p q) f room m j
+  tValue-weight q f room j fits low = tValue-least q j (weight (digitRow p q) f room m j) (weight-leastShare q f room j fits low)
 
   pub stop-one : (q : ℕ) → StopBound m p q 1
-  stop-one q = sound-one (row p q) m
+  stop-one q = sound-one (digitRow p q) m
 
   pub stop-two : (q r : ℕ) → rem (prod r q) p ≡ rem 1 p → StopBound m p q 2
-  stop-two q r inverse = subst (λ (m : ℕ). Sound (row p q) m 2) same (sound-inverse p positive q r inverse)
+  stop-two q r inverse = subst (λ (m : ℕ). Sound (digitRow p q) m 2) same (sound-inverse p positive q r inverse)
 
   pub tValue-first : (q : ℕ) → tValue m p q 1 ≡ 0
-  tValue-first q = tValue-weight q 1 m 0 (omega arith) (stop-one q) ∙ ap (λ (w : ℕ). suc m - w) (weight-one (row p q) 1 m m) ∙ omega arith
+  tValue-first q = tValue-weight q 1 m 0 (omega arith) (stop-one q) ∙ ap (λ (w : ℕ). suc m - w) (weight-one (digitRow p q) 1 m m) ∙ omega arith
 
   pub tValue-grows : (q j : ℕ) → tValue m p q (suc j) ≤ tValue m p q (suc (suc j))
   tValue-grows q j =
       let a = tValue-weight q 1 m j (omega arith) (stop-one q) in
       let b = tValue-weight q 1 m (suc j) (omega arith) (stop-one q) in
-      let w = weight (row p q) 1 m m j in
-      omega (arith, weight-suc (row p q) 1 m m j, level-le (row p q) 1 m (suc j) w)
+      let w = weight (digitRow p q) 1 m m j in
+      omega (arith, weight-suc (digitRow p q) 1 m m j, level-le (digitRow p q) 1 m (suc j) w)
 
 pub tValue-most : (m p q s : ℕ) → tValue m p q s ≤ m
 unfolding tValue

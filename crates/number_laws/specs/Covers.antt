@@ -1,16 +1,16 @@
 -- A divisor of N other than N divides N / r for some r of a list that has N's prime divisors: r is a prime divisor of the cofactor.
 -- That a list has exactly the prime divisors is a test that is computed, by trial division.
 -- Assumes nothing.
-use mathlib.Core.Path.{_≡_, ap, sym, _∙_, subst}
+use mathlib.Core.Path.{_≡_, sym, _∙_, subst}
 use mathlib.Core.Logic.{_≢_}
 use mathlib.Core.Bool.{Bool, true, _&&_, and-eq-true-iff}
 use mathlib.Core.List.{List, List·Memᴰ}
 use Prim.Native.Nat.{ℕ, zero, suc, _*_, _/_, _≤_, _<_, _∣_}
-use native.Mathlib.Nat.{dvd-trans, dvd-mul-right, dvd-mul-left, mul-div-cancel', mul-div-assoc, mul-one, mul-comm, mul-assoc, le-of-dvd, div-mul-cancel, div-lt-self, pos-of-dvd-of-pos}
+use native.Mathlib.Nat.{dvd-trans, dvd-mul-right, dvd-mul-left, mul-div-cancel', mul-div-assoc, mul-one, le-of-dvd, div-mul-cancel, div-lt-self, pos-of-dvd-of-pos}
 use native.Mathlib.Omega.{arith}
 use native.Mathlib.Decide.{decLe}
 use Rattle.definitions.specs.Number.{gcd}
-use Rattle.number_laws.specs.Gcd.{gcd-divides, gcd-positive, coprime-divides}
+use Rattle.number_laws.specs.Gcd.{gcd-divides, gcd-positive, coprime-divides, divided-multiple}
 use Rattle.number_laws.specs.Lists.{allIn, allIn-out}
 use Rattle.number_laws.specs.Primes.{PrimeDivisors, prime-divisor, primeFactors, prime-factors}
 
@@ -74,9 +74,5 @@ module _ (N : ℕ) (l : List ℕ) (pos : 0 < N) (h : PrimeDivisors N l) (s : ℕ
           let (r, p, k) = prime-divisor (gcd s N) two in
           let a : r ∣ s = dvd-trans r k (gcd-divides s N .0) in
           let b : r ∣ N = dvd-trans r k (gcd-divides s N .1) in
-          let e : N / r * s ≡ s / r * N = swap (N / r) (s / r) r (div-mul-cancel r b) (div-mul-cancel r a) in
-          absurd (apart r (h .all r p b) (rw e (dvd-mul-left N (s / r))))
-        where
-          swap : (u v r : ℕ) → u * r ≡ N → v * r ≡ s → u * s ≡ v * N
-          swap u v r b a = rw (← a, ← b) (sym (mul-assoc u v r) ∙ ap (λ w. w * r) (mul-comm u v) ∙ mul-assoc v u r)
+          absurd (apart r (h .all r p b) (divided-multiple r N s b a))
       go (no two) = omega (arith, gcd-positive s N pos)

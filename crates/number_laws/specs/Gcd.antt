@@ -1,9 +1,9 @@
 -- The greatest common divisor divides both numbers, every common divisor divides it, and what % keeps it keeps.
 -- All by one induction along Euclid's algorithm; at 'n divides c * a and c * b, so c * gcd' it gives Euclid's lemma without Bézout.
 -- Assumes nothing.
-use mathlib.Core.Path.{_≡_, refl, sym, subst}
-use Prim.Native.Nat.{ℕ, zero, suc, _-_, _*_, _/_, _%_, _≤_, _<_, _∣_}
-use native.Mathlib.Nat.{mod-lt, mul-le-mul-right, dvd-refl, dvd-zero, dvd-mod-iff, dvd-sub, dvd-mul-right-of-dvd, mod-def, mul-sub, mul-comm, mul-assoc, mul-one, le-of-dvd, zero-lt-suc, mod-add-div', dvd-mul-left, dvd-antisymm, one-dvd, pos-of-dvd-of-pos}
+use mathlib.Core.Path.{ap, _∙_, _≡_, refl, sym, subst}
+use Prim.Native.Nat.{ℕ, zero, suc, _+_, _-_, _*_, _/_, _%_, _≤_, _<_, _∣_}
+use native.Mathlib.Nat.{add-mul-mod-self-right, div-mul-cancel, mod-lt, mul-le-mul-right, dvd-refl, dvd-zero, dvd-mod-iff, dvd-sub, dvd-mul-right-of-dvd, mod-def, mul-sub, mul-comm, mul-assoc, mul-one, le-of-dvd, zero-lt-suc, mod-add-div', dvd-mul-left, dvd-antisymm, one-dvd, pos-of-dvd-of-pos}
 use native.Mathlib.Omega.{arith}
 use native.Mathlib.Decide.{decLe}
 use Rattle.definitions.specs.Number.{gcdWithin, gcd}
@@ -69,6 +69,19 @@ equal-remainders N a b h e =
 pub small-multiple : (N d : ℕ) → d < N → N ∣ d → d ≡ 0
 small-multiple N zero h k = refl
 small-multiple N (suc d) h k = absurd (omega (arith, le-of-dvd (zero-lt-suc d) k))
+
+-- A factor may be replaced by its remainder.
+pub remainder-mul : (i n s : ℕ) → i % n * s % n ≡ i * s % n
+remainder-mul i n s =
+    let e : i * s ≡ i % n * s + i / n * s * n = ap (λ k. k * s) (sym (mod-add-div' i n)) ∙ omega arith in
+    sym (ap (λ k. k % n) e ∙ add-mul-mod-self-right (i % n * s) (i / n * s) n)
+
+-- A common divisor g of n and s: n divides s taken n / g times.
+pub divided-multiple : (g n s : ℕ) → g ∣ n → g ∣ s → n ∣ n / g * s
+divided-multiple g n s b a = rw (swap (n / g) (s / g) (div-mul-cancel g b) (div-mul-cancel g a)) (dvd-mul-left n (s / g))
+  where
+    swap : (u v : ℕ) → u * g ≡ n → v * g ≡ s → u * s ≡ v * n
+    swap u v b a = rw (← a, ← b) (sym (mul-assoc u v g) ∙ ap (λ w. w * g) (mul-comm u v) ∙ mul-assoc v u g)
 
 -- The multiples of a number that is coprime to N are told apart by their remainders.
 module _ (N s : ℕ) (coprime : gcd s N ≡ 1) where

@@ -5,3 +5,7 @@ pub mod Powers
 pub mod Primitive
 pub mod Cycle
 pub mod Parity
+pub mod Step
+pub mod State
+pub mod Orbit
+pub mod Accepted

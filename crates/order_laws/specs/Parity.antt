@@ -106,3 +106,9 @@ even-parity-not-primitive m p h d even = truth-false (primitive m p) (λ t. clas
         let zero′ : parity (prod q p ⊕ 3) ≡ 0 = rw (parity-⊕, parity-prod, even, two-ones, mul-zero, ⊕-zero) in
         let k : _≡_ {A = ℕ} 0 1 = sym zero′ ∙ ap parity whole ∙ parity-power (w .exponent) in
         omega arith
+
+-- That is what a factor x + 1 means for p.
+pub factor-parity : (p : ℕ) → rem p 3 ≡ 0 → parity p ≡ 0
+factor-parity p h =
+    let whole : prod (quot p 3) 3 ≡ p = sym (⊕-zero (prod (quot p 3) 3)) ∙ ap (λ r. prod (quot p 3) 3 ⊕ r) (sym h) ∙ division 3 (omega arith) p in
+    ap parity (sym whole) ∙ parity-prod (quot p 3) 3 ∙ ap (λ b. parity (quot p 3) * b) two-ones ∙ mul-zero (parity (quot p 3))

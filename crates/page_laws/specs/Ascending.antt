@@ -4,11 +4,12 @@
 use mathlib.Core.Path.{_≡_, refl, sym, ap, ap₂, _∙_}
 use mathlib.Core.Logic.{_⊎_, inl, inr, ⊎-elim}
 use mathlib.Core.Bool.{Bool, true, false}
-use mathlib.Core.List.{List, [], _∷_, List·Memᴰ, List·Memᴰ·head, List·Memᴰ·tail, List·Memᴰ·not-nil, List·Memᴰ·cases-cons}
+use mathlib.Core.List.{List, [], _∷_, List·Memᴰ, List·Memᴰ·head, List·Memᴰ·tail, List·Memᴰ·not-nil, List·Memᴰ·cases-cons, List·Nodup, Pairwise·nil}
 use Prim.Native.Nat.{ℕ, zero, suc}
 use lib.ListN.{take}
 use Rattle.definitions.specs.Number.{keep, putIf}
 use Rattle.definitions.specs.Pages.{before, Place, start, after, above, rest}
+use Rattle.number_laws.specs.Lists.{nodup-more}
 use Rattle.page_laws.specs.Key.{before-irrefl, before-trans, cases, not-both}
 
 -- Whatever stands above the second place stands above the first.
@@ -113,6 +114,13 @@ module _ {X : Type 0} (key : X → List ℕ) where
       ⊎-elim (λ (h : x ≡ y). ap (λ (z : X). above at (key z)) h ∙ a .0)
       (λ (t : List·Memᴰ x l). lower-after at (key y) (a .0) (key x) (member-above (after (key y)) x l (a .1) t))
       (List·Memᴰ·cases-cons m)
+
+  -- An ascending list has each of its members once.
+  pub ascends-once : (at : Place) (l : List X) → Ascends key at l → List·Nodup l
+  unfolding Ascends above
+  ascends-once at [] a = Pairwise·nil
+  ascends-once at (x ∷ l) a =
+      nodup-more (λ m. not-both (member-above (after (key x)) x l (a .1) m) (before-irrefl (key x))) (ascends-once (after (key x)) l (a .1))
 
   -- Two ascending lists with the same members are the same.
   pub same-members : (p q : Place) (l m : List X) → Ascends key p l → Ascends key q m

@@ -1,0 +1,2 @@
+-- The point set of an accepted pair, seen as blocks of its output.
+pub mod Blocks

@@ -1,0 +1,2 @@
+-- What the contracts of the catalogue's inner functions cite.
+pub mod Seek

@@ -1,0 +1,66 @@
+// A customer's catalogue: open it, look a degree up, read a body row by row. The bytes come unchecked.
+pub mod form;
+pub mod rows;
+pub mod seek;
+
+use definitions::Lookup;
+use definitions::NextRow;
+use definitions::Opening;
+use definitions::Refusal;
+use seek::Sought;
+ghost use mathlib.Core.Path.{_≡_};
+ghost use Rattle.definitions.specs.Catalogue.{opening, lookupNumbers, lookupPart, nextRow, nextPlace};
+
+// How many degrees the catalogue has.
+pub fn open(file: &[u8]) -> Opening
+    ensures { λ r. ⌜ r ≡ opening (now (file .entry)) ⌝ }
+{
+    if !form::catalogue_form(file) {
+        return Opening::Closed(Refusal::IllFormedCatalogue);
+    }
+    Opening::Entries(form::byte(file, 0))
+}
+
+// The top dimension and the row count of a degree's body.
+pub fn lookup(file: &[u8], degree: u32) -> Lookup
+    ensures { λ r. ⌜ r ≡ lookupNumbers (now (file .entry)) degree ⌝ }
+{
+    match seek::seek(file, degree) {
+        Sought::At(i) => Lookup::Body(form::entry_top(file, i), form::entry_rows(file, i)),
+        Sought::Missing(refusal) => Lookup::NoBody(refusal),
+    }
+}
+
+// A degree's body, a part of the file; empty where the lookup is refused.
+pub fn body(file: &[u8], degree: u32) -> &[u8]
+    ensures { λ r. ⌜ now r ≡ lookupPart (now (file .entry)) degree ⌝ }
+{
+    match seek::seek(file, degree) {
+        Sought::At(i) => {
+            let from = form::entry_offset(file, i) as usize;
+            let to = from + form::body_size(file, i);
+            &file[from..to]
+        }
+        Sought::Missing(_) => &file[0..0],
+    }
+}
+
+// The row at a place of a body, p with its leading term, or the end.
+pub fn row_at(body: &[u8], degree: u32, top: u32, place: usize) -> NextRow
+    ensures { λ r. ⌜ r ≡ nextRow degree top (now (body .entry)) place ⌝ }
+{
+    if !rows::at_row(body, degree, top, place) {
+        return NextRow::End;
+    }
+    NextRow::Found(rows::decode(body, degree, top, place))
+}
+
+// The place behind the row at a place; at the end it stays.
+pub fn place_behind(body: &[u8], degree: u32, top: u32, place: usize) -> usize
+    ensures { λ r. ⌜ r ≡ nextPlace degree top (now (body .entry)) place ⌝ }
+{
+    if !rows::at_row(body, degree, top, place) {
+        return place;
+    }
+    place + top as usize + 4
+}

@@ -1,0 +1,4 @@
+-- Laws of catalogues.
+pub mod Form
+pub mod Reading
+pub mod Lookup

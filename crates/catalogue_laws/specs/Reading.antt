@@ -1,0 +1,92 @@
+-- Reading a body: when a place is the start of a whole row, as a walk tests it, and what that says.
+-- Each test of `atRow` by its definition; the first that fails decides. Assumes nothing.
+use mathlib.Core.Path.{_≡_, sym, _∙_}
+use mathlib.Core.Bool.{Bool, true, false, and-eq-true-iff}
+use mathlib.Core.List.{List}
+use Prim.Native.Nat.{ℕ, _+_, _-_, _%_, _<_, _≤_}
+use native.Mathlib.Omega.{arith}
+use native.Mathlib.Decide.{decLe}
+use lib.Dec.{leb, eqb}
+use lib.ListN.{length}
+use borrow.Author.Tests.{leb-true, eqb-true, lt-leb, le-leb, eq-eqb, ne-eqb}
+use Rattle.definitions.specs.Generator.{lawfulDegree}
+use Rattle.definitions.specs.Ranking.{lawfulTop}
+use Rattle.definitions.specs.Catalogue.{rowSize, atRow, rowAt, nextRow, nextPlace, byteAt, tAt}
+use Rattle.definitions.specs.declared.NextRow.the-variants.{Found, End}
+use Rattle.catalogue_laws.specs.Form.{degree-bounds, top-bounds}
+
+-- What is left behind a place holds w bytes.
+leb-sub : (w n place : ℕ) → place ≤ n → leb w (n - place) ≡ leb (place + w) n
+leb-sub w n place l = go (decLe w (n - place))
+  where
+    go : Dec (w ≤ n - place) → leb w (n - place) ≡ leb (place + w) n
+    go (yes h) = le-leb w (n - place) h ∙ sym (le-leb (place + w) n (omega arith))
+    go (no h) = lt-leb w (n - place) (omega arith) ∙ sym (lt-leb (place + w) n (omega arith))
+
+module _ (m top : ℕ) (body : List ℕ) (place : ℕ) where
+  pub at-row-degree : lawfulDegree m ≡ false → atRow m top body place ≡ false
+  unfolding atRow
+  at-row-degree d = rw d
+
+  module _ (d : lawfulDegree m ≡ true) where
+    pub at-row-top : lawfulTop top ≡ false → atRow m top body place ≡ false
+    unfolding atRow
+    at-row-top t = rw (d, t)
+
+    module _ (t : lawfulTop top ≡ true) where
+      pub at-row-start : (place % rowSize top ≡ 0 → ⊥) → atRow m top body place ≡ false
+      unfolding atRow
+      at-row-start n = rw (d, t, ne-eqb (place % rowSize top) 0 n)
+
+      module _ (n : place % rowSize top ≡ 0) where
+        pub at-row-behind : length body < place → atRow m top body place ≡ false
+        unfolding atRow
+        at-row-behind l = rw (d, t, eq-eqb (place % rowSize top) 0 n, lt-leb (place + rowSize top) (length body) (omega arith))
+
+        pub at-row-whole : place ≤ length body → atRow m top body place ≡ leb (rowSize top) (length body - place)
+        unfolding atRow
+        at-row-whole l = rw (d, t, eq-eqb (place % rowSize top) 0 n) (sym (leb-sub (rowSize top) (length body) place l))
+
+  -- What the start of a whole row says.
+  pub record AtRow : Type 0 where
+    pub degree-most : m ≤ 16
+    pub top-least : 3 ≤ top
+    pub top-most : top ≤ 8
+    pub start : place % rowSize top ≡ 0
+    pub whole : place + rowSize top ≤ length body
+
+  pub at-row-out : atRow m top body place ≡ true → AtRow
+  unfolding atRow
+  at-row-out r =
+      let a = and-eq-true-iff _ _ .0 r in
+      let b = and-eq-true-iff _ _ .0 (a .1) in
+      let c = and-eq-true-iff _ _ .0 (b .1) in
+      record {
+        degree-most = degree-bounds m (a .0) .1;
+        top-least = top-bounds top (b .0) .0;
+        top-most = top-bounds top (b .0) .1;
+        start = eqb-true _ _ (c .0);
+        whole = leb-true _ _ (c .1);
+      }
+
+  pub next-end : atRow m top body place ≡ false → nextRow m top body place ≡ End
+  unfolding nextRow
+  next-end e = rw e
+
+  pub next-found : atRow m top body place ≡ true → nextRow m top body place ≡ Found (rowAt m top body place)
+  unfolding nextRow
+  next-found e = rw e
+
+  pub next-place-end : atRow m top body place ≡ false → nextPlace m top body place ≡ place
+  unfolding nextPlace
+  next-place-end e = rw e
+
+  pub next-place-row : atRow m top body place ≡ true → nextPlace m top body place ≡ place + rowSize top
+  unfolding nextPlace
+  next-place-row e = rw e
+
+pub t-above : (top : ℕ) (body : List ℕ) (place s : ℕ) → top < s → tAt top body place s ≡ 0
+t-above top body place s l = rw (lt-leb s top l)
+
+pub t-within : (top : ℕ) (body : List ℕ) (place s : ℕ) → s ≤ top → tAt top body place s ≡ byteAt body (place + 3 + s)
+t-within top body place s l = rw (le-leb s top l)

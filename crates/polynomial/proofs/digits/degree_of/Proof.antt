@@ -1,0 +1,14 @@
+-- `polynomial::digits::degree_of` meets its contract: leading zeros, the highest digit and the digits below it make 32. Assumes nothing.
+use native.Mathlib.Omega.{arith}
+use Rattle.polynomial.specs.Digits.{leading-degree}
+use Rattle.polynomial.proofs.digits.degree_of.Statement.{statement}
+use Rattle.polynomial.proofs.digits.degree_of.Tie as tie
+
+sub-result : tie.Need-sub-result
+sub-result c = omega (arith, leading-degree (c .args .a) (c .pre) (c .fits .a .fits))
+
+returns : tie.Need-returns
+returns c = omega (arith, leading-degree (c .args .a) (c .pre) (c .fits .a .fits))
+
+pub degree-of-spec : {M : Type 1} → statement M
+degree-of-spec = tie.close (tie.spec sub-result returns)

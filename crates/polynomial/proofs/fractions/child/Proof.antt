@@ -1,0 +1,17 @@
+-- `polynomial::fractions::child` meets its contract: x times p is its double, and x + 1 is the other quotient of degree one. Assumes nothing.
+use borrow.Author.Needs.{needs}
+use Rattle.polynomial.specs.Fractions.{child-by-x, child-by-other}
+use Rattle.polynomial.proofs.fractions.child.Statement.{statement}
+use Rattle.polynomial.proofs.fractions.child.Tie as tie
+
+mul-by-x : tie.Need-mul-by-x
+mul-by-x c = search needs
+
+returns : tie.Need-returns
+returns c = child-by-x _ _ _ (c .if1 .taken)
+
+returns-2 : tie.Need-returns-2
+returns-2 c = child-by-other _ _ _ (c .before .pre .0) (c .if1 .left)
+
+pub child-spec : {M : Type 1} → statement M
+child-spec = tie.close (tie.spec mul-by-x returns returns-2)

@@ -1,0 +1,6 @@
+-- What the contracts cite, and its laws.
+pub mod Digits
+pub mod Modulus
+pub mod Residues
+pub mod Fractions
+pub mod Division

@@ -1,0 +1,177 @@
+-- What one turn of each loop over rows does: comparing two rows from a place on, closing in on a slot, moving numbers up, writing a row.
+-- Assumes nothing.
+use mathlib.Core.Path.{_≡_, refl, sym, ap, ap₂, _∙_}
+use mathlib.Core.Bool.{Bool, true, false}
+use mathlib.Core.List.{List, [], _∷_, _++_, append-assoc}
+use Prim.Native.Nat.{ℕ, zero, suc, _+_, _-_, _*_, _≤_, _<_}
+use native.Mathlib.Nat.{suc-add, suc-mul, add-zero, mul-le-mul-right}
+use native.Mathlib.Numerals.{add-one}
+use native.Mathlib.Omega.{arith}
+use lib.Dec.{ltb}
+use lib.ListN.{length, take, drop, getD, set, length-drop, List·getD-append, take-append-drop, drop-of-length-le}
+use lib.Seq.{take-suc, drop-cons, set-at, slice, slice-empty, slice-cons, append-snoc, getD-take, getD-drop, length-take-le, paste, paste-suc, take-append-le, take-take, drop-at}
+use Rattle.definitions.specs.Pages.{before}
+use Rattle.definitions.specs.Ranking.{rowKey}
+use Rattle.page_laws.specs.Key.{before-same, before-differ, before-single}
+use Rattle.page_laws.specs.Slot.{slot, slot-most, slot-up, slot-down, Ordered}
+use Rattle.page_laws.specs.Rows.{rowsOf, row-at, length-rows, shifted, spliced, inserted, inserted-more, inserted-full, inserted-none, Kept}
+
+-- ---- the numbers before one of n rows, and that row
+
+pub row-in : (w p n : ℕ) → p < n → p * w + w ≤ n * w
+row-in w p n h = omega (arith, suc-mul p w, mul-le-mul-right {m = suc p} {n = n} w h)
+
+pub rows-in : (w p n : ℕ) → p ≤ n → p * w ≤ n * w
+rows-in w p n h = mul-le-mul-right w h
+
+-- ---- moving numbers up
+
+shifted-more : (k to w : ℕ) (s : List ℕ) → k < to → to + w ≤ length s
+    → set (shifted (suc k) to w s) (k + w) (getD (shifted (suc k) to w s) k 0) ≡ shifted k to w s
+unfolding shifted
+shifted-more k to w s l h =
+    let R : List ℕ = slice (suc k) to s ++ drop (to + w) s in
+    let x : ℕ = getD s (k + w) 0 in
+    let f : length (take (suc k + w) s) ≡ suc k + w = length-take-le (suc k + w) s (omega arith) in
+    let e : take (suc k + w) s ≡ take (k + w) s ++ (x ∷ []) = ap (λ (n : ℕ). take n s) (suc-add k w) ∙ take-suc s (k + w) 0 (omega arith) in
+    let v : getD (take (suc k + w) s ++ R) k 0 ≡ getD s k 0 =
+    List·getD-append (take (suc k + w) s) R 0 k (omega arith) ∙ getD-take (suc k + w) s k 0 (omega arith) in
+    ap (set (take (suc k + w) s ++ R) (k + w)) v
+    ∙ ap (λ (t : List ℕ). set t (k + w) (getD s k 0)) (ap (λ (t : List ℕ). t ++ R) e ∙ append-snoc (take (k + w) s) x R)
+    ∙ set-at (take (k + w) s) x R (getD s k 0) (k + w) (length-take-le (k + w) s (omega arith))
+    ∙ ap (λ (t : List ℕ). take (k + w) s ++ (t ++ drop (to + w) s)) (sym (slice-cons k to s 0 l (omega arith)))
+
+module _ (to w : ℕ) (s : List ℕ) where
+  pub shift-none : s ≡ shifted to to w s
+  unfolding shifted
+  shift-none = sym (ap (λ (t : List ℕ). take (to + w) s ++ (t ++ drop (to + w) s)) (slice-empty to s) ∙ take-append-drop (to + w) s)
+
+  pub shift-more : (j : ℕ) {out : List ℕ} → 0 < j → j ≤ to → to + w ≤ length s → out ≡ shifted j to w s
+      → set out (j - 1 + w) (getD out (j - 1) 0) ≡ shifted (j - 1) to w s
+  shift-more j p l h e =
+      let z : j ≡ suc (j - 1) = omega arith in
+      ap (λ (t : List ℕ). set t (j - 1 + w) (getD t (j - 1) 0)) (e ∙ ap (λ (k : ℕ). shifted k to w s) z) ∙ shifted-more (j - 1) to w s (omega arith) h
+
+  pub shift-done : (j from : ℕ) {out : List ℕ} → j ≡ from → out ≡ shifted j to w s → out ≡ shifted from to w s
+  shift-done j from z e = e ∙ ap (λ (k : ℕ). shifted k to w s) z
+
+-- ---- writing a row
+
+module _ (d : List ℕ) (at : ℕ) (s : List ℕ) (j : ℕ) {out : List ℕ} (e : out ≡ paste d at s j) where
+  pub write-more : at + j < length d → j < length s → set out (at + j) (getD s j 0) ≡ paste d at s (j + 1)
+  write-more hd hs = ap (λ (t : List ℕ). set t (at + j) (getD s j 0)) e ∙ paste-suc d at s j 0 hd hs ∙ ap (paste d at s) (sym (add-one j))
+
+  pub write-done : (w : ℕ) → j ≡ w → out ≡ paste d at s w
+  write-done w z = e ∙ ap (paste d at s) z
+
+-- ---- putting a row in
+
+module _ (from to w : ℕ) (row s : List ℕ) (l : from ≤ to) (h : to + w ≤ length s) where
+  shifted-paste : paste (shifted from to w s) from row w ≡ spliced from to w (take w row) s
+  unfolding shifted spliced
+  shifted-paste =
+      let R : List ℕ = slice from to s ++ drop (to + w) s in
+      let f : length (take (from + w) s) ≡ from + w = length-take-le (from + w) s (omega arith) in
+      let a : take from (take (from + w) s ++ R) ≡ take from s =
+      take-append-le from (take (from + w) s) R (omega arith) ∙ take-take from (from + w) s (omega arith) in
+      ap₂ (λ (t u : List ℕ). t ++ take w row ++ u) a (drop-at (take (from + w) s) R (from + w) f)
+      ∙ append-assoc (take from s) (take w row) R
+
+  pub splice-done : {t out : List ℕ} → t ≡ shifted from to w s → out ≡ paste t from row w → out ≡ spliced from to w (take w row) s
+  splice-done e f = f ∙ ap (λ (t : List ℕ). paste t from row w) e ∙ shifted-paste
+
+-- ---- comparing two rows: the key from place k on
+
+unfoldable pub keyFrom : ℕ → List ℕ → List ℕ
+keyFrom k r = drop k r ++ take 2 r
+
+module _ (w i : ℕ) (a : List ℕ) (h : i + w ≤ length a) where
+  length-row : length (take w (drop i a)) ≡ w
+  length-row = length-take-le w (drop i a) (omega (arith, length-drop i a))
+
+  number-at : (k : ℕ) → k < w → getD (take w (drop i a)) k 0 ≡ getD a (i + k) 0
+  number-at k l = getD-take w (drop i a) k 0 l ∙ getD-drop i a k 0
+
+  key-cons : (k : ℕ) → k < w → keyFrom k (take w (drop i a)) ≡ getD a (i + k) 0 ∷ keyFrom (k + 1) (take w (drop i a))
+  unfolding keyFrom
+  key-cons k l =
+      ap (λ (t : List ℕ). t ++ take 2 (take w (drop i a)))
+      (drop-cons (take w (drop i a)) k 0 (omega (arith, length-row)) ∙ ap₂ (λ (x n : ℕ). x ∷ drop n (take w (drop i a))) (number-at k l) (sym (add-one k)))
+
+  key-end : (k : ℕ) → w ≤ k → 3 < w → keyFrom k (take w (drop i a)) ≡ getD a i 0 ∷ getD a (i + 1) 0 ∷ []
+  unfolding keyFrom
+  key-end k e l =
+      let r : List ℕ = take w (drop i a) in
+      let n : length r ≡ w = length-row in
+      ap₂ (λ (t u : List ℕ). t ++ u) (drop-of-length-le r {i = k} (omega arith))
+      (take-suc r 1 0 (omega arith) ∙ ap (λ (t : List ℕ). t ++ (getD r 1 0 ∷ [])) (take-suc r 0 0 (omega arith))
+      ∙ ap₂ (λ (x y : ℕ). x ∷ y ∷ []) (number-at 0 (omega arith) ∙ ap (λ (m : ℕ). getD a m 0) (add-zero i)) (number-at 1 (omega arith)))
+
+-- The two keys compare as what is left of them from place k on.
+abbrev pub Left : ℕ → ℕ → List ℕ → ℕ → List ℕ → ℕ → Type 0
+Left w i a j b k =
+    before (rowKey (take w (drop i a))) (rowKey (take w (drop j b))) ≡ before (keyFrom k (take w (drop i a))) (keyFrom k (take w (drop j b)))
+
+module _ (w i j : ℕ) (a b : List ℕ) where
+  abbrev keys : Bool
+  keys = before (rowKey (take w (drop i a))) (rowKey (take w (drop j b)))
+
+  pub left-all : Left w i a j b 3
+  unfolding rowKey keyFrom
+  left-all = refl
+
+  module _ (k : ℕ) (pre : (3 < w) × (i + w ≤ length a) × (j + w ≤ length b)) (inv : Left w i a j b k) where
+    heads : k < w → keys ≡ before (getD a (i + k) 0 ∷ keyFrom (k + 1) (take w (drop i a))) (getD b (j + k) 0 ∷ keyFrom (k + 1) (take w (drop j b)))
+    heads l = inv ∙ ap₂ before (key-cons w i a (pre .1) k l) (key-cons w j b (pre .2) k l)
+
+    pub left-differ : k < w → (getD a (i + k) 0 ≡ getD b (j + k) 0 → ⊥) → ltb (getD a (i + k) 0) (getD b (j + k) 0) ≡ keys
+    left-differ l n = sym (heads l ∙ before-differ _ _ _ _ n)
+
+    pub left-more : k < w → getD a (i + k) 0 ≡ getD b (j + k) 0 → Left w i a j b (k + 1)
+    left-more l e = heads l ∙ before-same _ _ _ _ e
+
+    ends : w ≤ k → keys ≡ before (getD a i 0 ∷ getD a (i + 1) 0 ∷ []) (getD b j 0 ∷ getD b (j + 1) 0 ∷ [])
+    ends l = inv ∙ ap₂ before (key-end w i a (pre .1) k l (pre .0)) (key-end w j b (pre .2) k l (pre .0))
+
+    pub end-differ : w ≤ k → (getD a i 0 ≡ getD b j 0 → ⊥) → ltb (getD a i 0) (getD b j 0) ≡ keys
+    end-differ l n = sym (ends l ∙ before-differ _ _ _ _ n)
+
+    pub end-same : w ≤ k → getD a i 0 ≡ getD b j 0 → ltb (getD a (i + 1) 0) (getD b (j + 1) 0) ≡ keys
+    end-same l e = sym (ends l ∙ before-same _ _ _ _ e ∙ before-single _ _)
+
+-- ---- the slot by halves
+
+-- The slot stands between the two ends.
+abbrev pub Between : ℕ → ℕ → List ℕ → List ℕ → ℕ → ℕ → Type 0
+Between w n r s low high = (low ≤ slot rowKey r (rowsOf w n s)) × (slot rowKey r (rowsOf w n s) ≤ high)
+
+module _ (w n : ℕ) (r s : List ℕ) where
+  pub between-all : Between w n r s 0 n
+  between-all = (omega arith, omega (arith, slot-most rowKey r (rowsOf w n s), length-rows w n s))
+
+  module _ (low high mid : ℕ) (inv : Between w n r s low high) (l : mid < n) where
+    pub between-low : before (rowKey r) (rowKey (take w (drop (mid * w) s))) ≡ true → Between w n r s low mid
+    between-low t = (
+      inv .0,
+      slot-down rowKey r [] (rowsOf w n s) mid (omega (arith, length-rows w n s)) (ap (λ (x : List ℕ). before (rowKey r) (rowKey x)) (row-at w n mid s l) ∙ t),
+    )
+
+    pub between-high : Ordered rowKey (rowsOf w n s) → before (rowKey r) (rowKey (take w (drop (mid * w) s))) ≡ false → Between w n r s (mid + 1) high
+    between-high o t =
+        let u = slot-up rowKey r [] (rowsOf w n s) mid o (omega (arith, length-rows w n s))
+        (ap (λ (x : List ℕ). before (rowKey r) (rowKey x)) (row-at w n mid s l) ∙ t) in
+        (omega arith, inv .1)
+
+-- ---- an insertion
+
+module _ (w cap : ℕ) (r s : List ℕ) (n p : ℕ) (at : p ≡ slot rowKey r (rowsOf w n s)) where
+  pub insert-more : {out : List ℕ} → n < cap → out ≡ spliced (p * w) (n * w) w r s
+      → _≡_ {A = Kept} (record { out = out; n = n + 1 }) (inserted rowKey w cap r (record { out = s; n = n }))
+  insert-more h e = ap (λ (o : List ℕ). record { out = o; n = n + 1 }) e ∙ inserted-more rowKey w cap r s n p at h
+
+  pub insert-full : {out : List ℕ} → n ≤ cap → cap ≤ n → p < n → out ≡ spliced (p * w) ((n - 1) * w) w r s
+      → _≡_ {A = Kept} (record { out = out; n = n }) (inserted rowKey w cap r (record { out = s; n = n }))
+  insert-full h k l e = ap (λ (o : List ℕ). record { out = o; n = n }) e ∙ inserted-full rowKey w cap r s n p at (omega arith) l
+
+  pub insert-none : n ≤ cap → cap ≤ n → n ≤ p → _≡_ {A = Kept} (record { out = s; n = n }) (inserted rowKey w cap r (record { out = s; n = n }))
+  insert-none h k l = inserted-none rowKey w cap r s n p at (omega arith) l

@@ -1,0 +1,2 @@
+// Pages of the ranked list.
+pub mod rows;

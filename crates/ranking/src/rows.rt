@@ -1,0 +1,98 @@
+// Rows kept in ascending order at the front of a lent slice.
+ghost use mathlib.Core.Path.{_≡_};
+ghost use Prim.Native.Nat.{_+_, _*_, _<_, _≤_};
+ghost use lib.ListN.{length, take, drop};
+ghost use lib.Seq.{paste};
+ghost use Rattle.definitions.specs.Pages.{before};
+ghost use Rattle.definitions.specs.Ranking.{rowKey};
+ghost use Rattle.page_laws.specs.Slot.{slot, Ordered};
+ghost use Rattle.page_laws.specs.Rows.{rowsOf, shifted, spliced, inserted, Kept};
+
+// Whether the row of `a` at `i` stands before the row of `b` at `j`, by their keys.
+pub fn stands_before(a: &[u32], i: usize, b: &[u32], j: usize, w: usize) -> bool
+    requires { ⌜ (3 < w) × (i + w ≤ length (now a)) × (j + w ≤ length (now b)) ⌝ }
+    ensures { λ r. ⌜ r ≡ before (rowKey (take w (drop i (now (a .entry))))) (rowKey (take w (drop j (now (b .entry))))) ⌝ }
+{
+    let mut k: usize = 3;
+    while k < w {
+        let x = a[i + k];
+        let y = b[j + k];
+        if x != y {
+            return x < y;
+        }
+        k += 1;
+    }
+    let x = a[i];
+    let y = b[j];
+    if x != y {
+        return x < y;
+    }
+    a[i + 1] < b[j + 1]
+}
+
+// The slot of `row` among the `n` rows kept in `out`, by halves.
+pub fn find_slot(out: &[u32], n: usize, w: usize, row: &[u32]) -> usize
+    requires { ⌜ (3 < w) × (w ≤ length (now row)) × (n * w ≤ length (now out)) × Ordered rowKey (rowsOf w n (now out)) ⌝ }
+    ensures { λ r. ⌜ r ≡ slot rowKey (take w (now (row .entry))) (rowsOf w n (now (out .entry))) ⌝ }
+{
+    let mut low: usize = 0;
+    let mut high = n;
+    while low < high {
+        let mid = low + (high - low) / 2;
+        if stands_before(row, 0, out, mid * w, w) {
+            high = mid;
+        } else {
+            low = mid + 1;
+        }
+    }
+    low
+}
+
+// Moves the numbers from `from` up to `to` up by `w`, the last first.
+fn shift(out: &mut [u32], from: usize, to: usize, w: usize)
+    requires { ⌜ (from ≤ to) × (to + w ≤ length (now out)) ⌝ }
+    ensures { λ _. ⌜ now (out .exit) ≡ shifted from to w (now (out .entry)) ⌝ }
+{
+    let mut j = to;
+    while from < j {
+        j -= 1;
+        out[j + w] = out[j];
+    }
+}
+
+// Writes the first `w` numbers of `row` at `base`.
+fn write_row(out: &mut [u32], base: usize, row: &[u32], w: usize)
+    requires { ⌜ (w ≤ length (now row)) × (base + w ≤ length (now out)) ⌝ }
+    ensures { λ _. ⌜ now (out .exit) ≡ paste (now (out .entry)) base (now (row .entry)) w ⌝ }
+{
+    let mut i: usize = 0;
+    while i < w {
+        out[base + i] = row[i];
+        i += 1;
+    }
+}
+
+// Puts `row` in at `from`, and moves what stands there up to `to` behind it.
+fn splice(out: &mut [u32], from: usize, to: usize, w: usize, row: &[u32])
+    requires { ⌜ (w ≤ length (now row)) × (from ≤ to) × (to + w ≤ length (now out)) ⌝ }
+    ensures { λ _. ⌜ now (out .exit) ≡ spliced from to w (take w (now (row .entry))) (now (out .entry)) ⌝ }
+{
+    shift(out, from, to, w);
+    write_row(out, from, row, w);
+}
+
+// Puts `row` in its slot among the `n` rows kept in `out`, of which at most `cap` stay, and answers how many are kept.
+pub fn insert_row(out: &mut [u32], n: usize, w: usize, cap: usize, at: usize, row: &[u32]) -> usize
+    requires { ⌜ (w ≤ length (now row)) × (n ≤ cap) × (cap * w ≤ length (now out)) ⌝ }
+    requires { ⌜ at ≡ slot rowKey (take w (now row)) (rowsOf w n (now out)) ⌝ }
+    ensures { λ r. ⌜ _≡_ {A = Kept} (record { out = now (out .exit); n = r }) (inserted rowKey w cap (take w (now (row .entry))) (record { out = now (out .entry); n = n })) ⌝ }
+{
+    if n < cap {
+        splice(out, at * w, n * w, w, row);
+        return n + 1;
+    }
+    if at < n {
+        splice(out, at * w, (n - 1) * w, w, row);
+    }
+    n
+}

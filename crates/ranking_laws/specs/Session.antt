@@ -1,0 +1,212 @@
+-- DEMAND 3: whoever asks for page after page, each time after the last row received, with any slices that hold a row, reads the ranked
+-- list. Each answer is a page of it (no request on the way is refused, since the last row's pair is accepted), the place after that pair is
+-- the place behind the page, and so the session is a walk through pages of a list that ascends. Assumes nothing.
+use mathlib.Core.Path.{_≡_, refl, sym, ap, ap₂, _∙_, subst}
+use mathlib.Core.Logic.{⊎-elim}
+use mathlib.Core.Bool.{Bool, true, false, and-eq-true-iff}
+use mathlib.Core.List.{List, [], _∷_, List·Memᴰ, List·Memᴰ·head, List·Memᴰ·tail, List·Memᴰ·cases-cons, Memᴰ·cast}
+use Prim.Native.Nat.{ℕ, zero, suc, _+_, _*_, _/_, _≤_, _<_}
+use native.Mathlib.Nat.{le-div-iff-mul-le}
+use native.Mathlib.Omega.{arith}
+use lib.Dec.{leb, ltb}
+use lib.ListN.{length, take, getD}
+use lib.Seq.{length-take-le}
+use borrow.Author.Tests.{le-ltb, ltb-true, leb-true}
+use Rattle.definitions.specs.Number.{keep, join}
+use Rattle.definitions.specs.Answers.{unless}
+use Rattle.definitions.specs.Generator.{Pair, lawfulDegree, largestDegree, leastDegree, wellFormed, primitive, linearQuotients, coprimeStep, accepted}
+use Rattle.definitions.specs.Pages.{Place, start, after, above, rest, page, more, laid}
+use Rattle.definitions.specs.Ranking.{lawfulTop, leastTop, largestTop, rowWidth, row, rowKey, ranked, placeOf}
+use Rattle.definitions.specs.Calls.{paging, positionSituations, pairSituations, pageRows, furtherRow, pageAnswer, pageSlice}
+use Rattle.definitions.specs.Honest.{unless-both}
+use Rattle.definitions.specs.declared.Refusal.{Refusal}
+use Rattle.definitions.specs.declared.Position.{Position}
+use Rattle.definitions.specs.declared.Position.the-variants.{Start, After}
+use Rattle.definitions.specs.declared.PageRequest.{PageRequest}
+use Rattle.definitions.specs.declared.PageAnswer.{PageAnswer}
+use Rattle.definitions.specs.declared.PageAnswer.the-variants.{Page, NoPage}
+use Rattle.number_laws.specs.Lists.{keep-out}
+use Rattle.order_laws.specs.Accepted.{accepted-is}
+use Rattle.page_laws.specs.Slot.{take-member}
+use Rattle.page_laws.specs.Rows.{rowsOf, laid-rows, Wide}
+use Rattle.page_laws.specs.Search.{wide-page}
+use Rattle.page_laws.specs.Walk.{behind, Walk, ends, goes, walk-ends, walk-whole}
+use Rattle.ranking_laws.specs.Met.{row-def}
+use Rattle.ranking_laws.specs.Ranked.{ranked-ascends, ranked-wide, RankedRow, ranked-out}
+
+abbrev pub asks : ℕ → ℕ → Position → PageRequest
+asks m top at = record { degree = m; top = top; position = at }
+
+-- The n rows that stand in a slice after it was lent.
+abbrev pub received : ℕ → ℕ → Position → List ℕ → ℕ → List (List ℕ)
+received m top at s n = rowsOf (rowWidth top) n (pageSlice (asks m top at) s)
+
+-- The last of some rows; r where there is none.
+unfoldable pub lastRow : List ℕ → List (List ℕ) → List ℕ
+lastRow r [] = r
+lastRow r (x ∷ rows) = lastRow x rows
+
+-- After the pair of the last row received.
+abbrev pub afterLast : List (List ℕ) → Position
+afterLast rows = After (getD (lastRow [] rows) 0 0) (getD (lastRow [] rows) 1 0)
+
+-- `Session m top lent at i ps`: a page is asked for at the position with the slice `lent i`, then after the last row received with the slice
+-- `lent (i + 1)`, and so on, until an answer says that nothing follows; ps are the rows that were read out of each slice.
+pub data Session (m top : ℕ) (lent : ℕ → List ℕ) : Position → ℕ → List (List (List ℕ)) → Type 0 where
+  closes : {at : Position} {i n : ℕ} → pageAnswer (asks m top at) (lent i) ≡ Page n false → Session m top lent at i (received m top at (lent i) n ∷ [])
+  goes-on : {at : Position} {i n : ℕ} {ps : List (List (List ℕ))} → pageAnswer (asks m top at) (lent i) ≡ Page n true
+      → Session m top lent (afterLast (received m top at (lent i) n)) (suc i) ps → Session m top lent at i (received m top at (lent i) n ∷ ps)
+
+-- ---- the last row of a page
+
+last-listed : (x : List ℕ) (rows : List (List ℕ)) → List·Memᴰ (lastRow x rows) (x ∷ rows)
+unfolding lastRow
+last-listed x [] = List·Memᴰ·head refl
+last-listed x (y ∷ rows) = List·Memᴰ·tail (last-listed y rows)
+
+behind-row : (at : Place) (x : List ℕ) (rows : List (List ℕ)) → behind rowKey at (x ∷ rows) ≡ after (rowKey (lastRow x rows))
+unfolding behind lastRow
+behind-row at x [] = refl
+behind-row at x (y ∷ rows) = behind-row (after (rowKey x)) y rows
+
+module _ (m top : ℕ) where
+  -- A row of the ranked list is the row of the pair that it begins with.
+  row-again : (r : List ℕ) → RankedRow m top r → row m top (getD r 0 0) (getD r 1 0) ≡ r
+  row-again r k =
+      let e : r ≡ row m top (k .pair .p) (k .pair .q) = sym (k .is) in
+      ap₂ (row m top) (ap (λ (l : List ℕ). getD l 0 0) (e ∙ row-def m top (k .pair .p) (k .pair .q)))
+      (ap (λ (l : List ℕ). getD l 1 0) (e ∙ row-def m top (k .pair .p) (k .pair .q)))
+      ∙ k .is
+
+  page-listed : (at : Place) (k : ℕ) (r : List ℕ) → List·Memᴰ r (page rowKey at k (ranked m top)) → List·Memᴰ r (ranked m top)
+  unfolding page rest
+  page-listed at k r i =
+      keep-out (λ (x : List ℕ). above at (rowKey x)) (ranked m top) (take-member rowKey k (rest rowKey at (ranked m top)) r i) .0
+
+  place-last : (at : Place) (rows : List (List ℕ)) → 1 ≤ length rows → ((r : List ℕ) → List·Memᴰ r rows → RankedRow m top r)
+      → placeOf m top (afterLast rows) ≡ behind rowKey at rows
+  unfolding placeOf lastRow
+  place-last at [] h f = absurd (omega arith)
+  place-last at (x ∷ rows) h f = ap (λ (r : List ℕ). after (rowKey r)) (row-again (lastRow x rows) (f (lastRow x rows) (last-listed x rows))) ∙ sym (behind-row at x rows)
+
+  -- A position that no request refuses: the start, or after an accepted pair.
+  data Lawful : Position → Type 0 where
+    lawful-start : Lawful Start
+    lawful-after : {p q : ℕ} → wellFormed m p q ≡ true → accepted m p q ≡ true → Lawful (After p q)
+
+  lawful-last : (rows : List (List ℕ)) → 1 ≤ length rows → ((r : List ℕ) → List·Memᴰ r rows → RankedRow m top r) → Lawful (afterLast rows)
+  unfolding lastRow
+  lawful-last [] h f = absurd (omega arith)
+  lawful-last (x ∷ rows) h f =
+      let r : List ℕ = lastRow x rows in
+      let k : RankedRow m top r = f r (last-listed x rows) in
+      let e : r ≡ row m top (k .pair .p) (k .pair .q) = sym (k .is) in
+      let a : getD r 0 0 ≡ k .pair .p = ap (λ (l : List ℕ). getD l 0 0) (e ∙ row-def m top (k .pair .p) (k .pair .q)) in
+      let b : getD r 1 0 ≡ k .pair .q = ap (λ (l : List ℕ). getD l 1 0) (e ∙ row-def m top (k .pair .p) (k .pair .q)) in
+      lawful-after (ap₂ (wellFormed m) a b ∙ k .well-formed) (ap₂ (accepted m) a b ∙ k .passes)
+
+  module _ (lawful-degree : lawfulDegree m ≡ true) (lawful-top : lawfulTop top ≡ true) (lent : ℕ → List ℕ) (room : (i : ℕ) → rowWidth top ≤ length (lent i)) where
+    cap : ℕ → ℕ
+    cap i = length (lent i) / rowWidth top
+
+    cap-full : (i : ℕ) → 1 ≤ cap i
+    unfolding cap
+    cap-full i = le-div-iff-mul-le {k = rowWidth top} {x = 1} {y = length (lent i)} (omega arith) .1 (omega (arith, room i))
+
+    least-top : leastTop ≤ top
+    least-top = leb-true leastTop top (and-eq-true-iff (leb leastTop top) (leb top largestTop) .0 lawful-top .0)
+
+    rowsAt : Position → ℕ → List (List ℕ)
+    rowsAt at i = page rowKey (placeOf m top at) (cap i) (ranked m top)
+
+    module _ (at : Position) (i n : ℕ) (b : Bool) (e : pageAnswer (asks m top at) (lent i) ≡ Page n b) where
+      told : (Page (length (pageRows (asks m top at) (lent i))) (furtherRow (asks m top at) (lent i)) ≡ Page n b)
+          × (pageSlice (asks m top at) (lent i) ≡ laid (rowWidth top) (pageRows (asks m top at) (lent i)) (lent i))
+      unfolding pageAnswer pageSlice
+      told =
+          unless-both
+          (λ a o. a ≡ Page n b
+          → (Page (length (pageRows (asks m top at) (lent i))) (furtherRow (asks m top at) (lent i)) ≡ Page n b)
+          × (o ≡ laid (rowWidth top) (pageRows (asks m top at) (lent i)) (lent i)))
+          (paging (asks m top at) (lent i)) NoPage _ (λ (k : Refusal). lent i) _
+          (λ k (f : NoPage k ≡ Page n b). let z : _≡_ {A = ℕ} 0 1 = cc in absurd (omega arith))
+          (λ f. (f, refl))
+          e
+
+      told-more : more rowKey (placeOf m top at) (cap i) (ranked m top) ≡ b
+      unfolding furtherRow cap
+      told-more = let t = told .0 in cc
+
+      told-count : n ≡ length (rowsAt at i)
+      unfolding pageRows rowsAt cap
+      told-count = let t = told .0 in cc
+
+      told-rows : received m top at (lent i) n ≡ rowsAt at i
+      unfolding pageRows rowsAt cap
+      told-rows =
+          ap₂ (λ (k : ℕ) (o : List ℕ). rowsOf (rowWidth top) k o) told-count (told .1)
+          ∙ laid-rows (rowWidth top) (page rowKey (placeOf m top at) (length (lent i) / rowWidth top) (ranked m top)) (lent i)
+          (wide-page rowKey (rowWidth top) (placeOf m top at) (length (lent i) / rowWidth top) (ranked m top) (ranked-wide m top least-top))
+
+    ranked-rows : (at : Position) (i : ℕ) (r : List ℕ) → List·Memᴰ r (rowsAt at i) → RankedRow m top r
+    unfolding rowsAt
+    ranked-rows at i r k = ranked-out m top r (page-listed (placeOf m top at) (cap i) r k)
+
+    -- A page that is followed by another has a row.
+    some-row : (at : Position) (i : ℕ) → more rowKey (placeOf m top at) (cap i) (ranked m top) ≡ true → 1 ≤ length (rowsAt at i)
+    unfolding rowsAt more page
+    some-row at i t =
+        let h = ltb-true (cap i) (length (rest rowKey (placeOf m top at) (ranked m top))) t in
+        omega (arith, length-take-le (cap i) (rest rowKey (placeOf m top at) (ranked m top)) (omega arith), cap-full i)
+
+    next-place : (at : Position) (i : ℕ) → more rowKey (placeOf m top at) (cap i) (ranked m top) ≡ true
+        → placeOf m top (afterLast (rowsAt at i)) ≡ behind rowKey (placeOf m top at) (rowsAt at i)
+    next-place at i t = place-last (placeOf m top at) (rowsAt at i) (some-row at i t) (ranked-rows at i)
+
+    walks : {at : Position} {i : ℕ} {ps : List (List (List ℕ))} → Session m top lent at i ps → Walk rowKey cap (ranked m top) (placeOf m top at) i ps
+    unfolding rowsAt
+    walks (closes {at = at} {i = i} {n = n} e) =
+        subst (λ (p : List (List ℕ)). Walk rowKey cap (ranked m top) (placeOf m top at) i (p ∷ [])) (sym (told-rows at i n false e)) (ends (told-more at i n false e))
+    walks (goes-on {at = at} {i = i} {n = n} {ps = ps} e w) =
+        let t = told-more at i n true e in
+        let r = told-rows at i n true e in
+        let g : placeOf m top (afterLast (received m top at (lent i) n)) ≡ behind rowKey (placeOf m top at) (rowsAt at i) =
+        ap (λ (rows : List (List ℕ)). placeOf m top (afterLast rows)) r ∙ next-place at i t in
+        subst (λ (p : List (List ℕ)). Walk rowKey cap (ranked m top) (placeOf m top at) i (p ∷ ps)) (sym r)
+        (goes t (subst (λ (x : Place). Walk rowKey cap (ranked m top) x (suc i) ps) g (walks w)))
+
+    answered : {at : Position} → Lawful at → (i : ℕ)
+        → pageAnswer (asks m top at) (lent i) ≡ Page (length (rowsAt at i)) (more rowKey (placeOf m top at) (cap i) (ranked m top))
+    unfolding pageAnswer paging positionSituations pairSituations pageRows furtherRow rowsAt cap unless
+    answered lawful-start i = rw (lawful-degree, lawful-top, le-ltb (length (lent i)) (rowWidth top) (room i))
+    answered (lawful-after {p = p} {q = q} w t) i =
+        let a = accepted-is m p q .0 t in
+        rw (lawful-degree, lawful-top, w, a .primitive-p, a .linear, a .coprime, le-ltb (length (lent i)) (rowWidth top) (room i))
+
+    sessions : {x : Place} {i : ℕ} {ps : List (List (List ℕ))} → Walk rowKey cap (ranked m top) x i ps
+        → (at : Position) → placeOf m top at ≡ x → Lawful at → Session m top lent at i ps
+    sessions (ends {at = x} {i = i} t) at e l =
+        let f = answered l i ∙ ap (Page (length (rowsAt at i))) (ap (λ (y : Place). more rowKey y (cap i) (ranked m top)) e ∙ t) in
+        subst (λ (p : List (List ℕ)). Session m top lent at i (p ∷ [])) (told-rows at i (length (rowsAt at i)) false f ∙ unfold rowsAt in ap (λ (y : Place). page rowKey y (cap i) (ranked m top)) e) (closes f)
+    sessions (goes {at = x} {i = i} {ps = ps} t w) at e l =
+        let u : more rowKey (placeOf m top at) (cap i) (ranked m top) ≡ true = ap (λ (y : Place). more rowKey y (cap i) (ranked m top)) e ∙ t in
+        let f = answered l i ∙ ap (Page (length (rowsAt at i))) u in
+        let r = told-rows at i (length (rowsAt at i)) true f in
+        let same : rowsAt at i ≡ page rowKey x (cap i) (ranked m top) = unfold rowsAt in ap (λ (y : Place). page rowKey y (cap i) (ranked m top)) e in
+        let next : placeOf m top (afterLast (rowsAt at i)) ≡ behind rowKey x (page rowKey x (cap i) (ranked m top)) =
+        next-place at i u ∙ ap₂ (behind rowKey) e same in
+        let s : Session m top lent (afterLast (rowsAt at i)) (suc i) ps = sessions w (afterLast (rowsAt at i)) next (lawful-last (rowsAt at i) (some-row at i u) (ranked-rows at i)) in
+        subst (λ (p : List (List ℕ)). Session m top lent at i (p ∷ ps)) (r ∙ same)
+        (goes-on f (subst (λ (rows : List (List ℕ)). Session m top lent (afterLast rows) (suc i) ps) (sym r) s))
+
+    -- There is a session from the start, so it ends.
+    pub session-ends : (ps : List (List (List ℕ))) × Session m top lent Start 0 ps
+    unfolding placeOf
+    session-ends =
+        let w = walk-ends rowKey cap cap-full (ranked m top) (ranked-ascends m top) in
+        (w .0, sessions (w .1) Start refl lawful-start)
+
+    -- The rows read in each session from the start, joined, are the ranked list, and it asks for at most one page more than there are rows.
+    pub session-whole : {ps : List (List (List ℕ))} → Session m top lent Start 0 ps → (length ps ≤ length (ranked m top) + 1) × (join ps ≡ ranked m top)
+    unfolding placeOf
+    session-whole s = walk-whole rowKey cap cap-full (ranked m top) (ranked-ascends m top) (walks s)
