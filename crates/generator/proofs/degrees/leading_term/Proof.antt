@@ -1,0 +1,14 @@
+-- `generator::degrees::leading_term` meets its contract. Assumes nothing.
+use borrow.Author.Needs.{needs}
+use Rattle.generator.specs.Lawful.{top-is}
+use Rattle.generator.proofs.degrees.leading_term.Statement.{statement}
+use Rattle.generator.proofs.degrees.leading_term.Tie as tie
+
+shl-result : tie.Need-shl-result
+shl-result c = search needs
+
+returns : tie.Need-returns
+returns c = top-is (c .pre)
+
+pub leading-term-spec : {M : Type 1} → statement M
+leading-term-spec = tie.close (tie.spec shl-result returns)

@@ -1,0 +1,65 @@
+-- The step finder's turns: the power at hand is x^e, and e has not passed the step; where it is q, e is the step, and where it is not, e stands before it.
+-- Assumes nothing.
+use mathlib.Core.Path.{_≡_, sym, ap, _∙_}
+use mathlib.Core.Bool.{true, false≢true}
+use Prim.Native.Nat.{ℕ, suc, _+_, _-_, _*_, _^_, _≤_, _<_}
+use native.Mathlib.Numerals.{add-one}
+use native.Mathlib.Omega.{arith}
+use native.Mathlib.Decide.{decLe}
+use borrow.Author.Tests.{eq-eqb}
+use Rattle.definitions.specs.Polynomial.{degree, rem}
+use Rattle.definitions.specs.Generator.{period, primitive, step}
+use Rattle.number_laws.specs.First.{first-before}
+use Rattle.polynomial_laws.specs.Degree.{degree-unique}
+use Rattle.polynomial_laws.specs.Division.{rem-small, rem-lt, timesX-rem}
+use Rattle.polynomial_laws.specs.Power.{rem-power-suc}
+use Rattle.fraction_laws.specs.WellFormed.{WellFormed}
+use Rattle.order_laws.specs.Cycle.{degree-big}
+use Rattle.order_laws.specs.Step.{gives, step-def, step-from, step-power}
+use Rattle.generator.specs.Lawful.{Lawful, top-low}
+
+-- Where the finder is: at x^e, e at most the step.
+pub record At (m p q power e : ℕ) : Type 0 where
+  pub least : 1 ≤ e
+  pub most : e ≤ step m p q
+  pub is : power ≡ rem (2 ^ e) p
+
+module _ (m p q : ℕ) (h : Lawful m) (w : WellFormed m p q) (t : primitive m p ≡ true) where
+  big : 2 ≤ p
+  big = degree-big m p (omega (arith, h .low)) (w .degree-p)
+
+  pub at-start : At m p q 2 1
+  at-start = record {
+    least = omega arith;
+    most = step-from m p q;
+    is = sym (rem-small p (omega (arith, big)) 2 (rw (degree-unique p m (w .degree-p)) (omega (arith, top-low h))));
+  }
+
+  pub at-found : (power e : ℕ) → At m p q power e → power ≡ q → e ≡ step m p q
+  at-found power e a f = go (decLe (step m p q) e)
+    where
+      go : Dec (step m p q ≤ e) → e ≡ step m p q
+      go (yes l) = omega (arith, a .most)
+      go (no l) =
+          absurd (false≢true (sym (first-before (period m - 1) 1 (gives p q) e (a .least) (omega (arith, step-def m p q))) ∙ eq-eqb (rem (2 ^ e) p) q (sym (a .is) ∙ f)))
+
+  pub at-before : (power e : ℕ) → At m p q power e → (power ≡ q → ⊥) → e < step m p q
+  at-before power e a n = go (decLe (step m p q) e)
+    where
+      go : Dec (step m p q ≤ e) → e < step m p q
+      go (yes l) =
+          let s : e ≡ step m p q = omega (arith, a .most) in
+          absurd (n (a .is ∙ ap (λ (k : ℕ). rem (2 ^ k) p) s ∙ step-power m p (omega (arith, h .low)) (w .degree-p) t q (w .nonzero) (w .smaller)))
+      go (no l) = omega arith
+
+  pub at-next : (power e next : ℕ) → At m p q power e → (power ≡ q → ⊥) → next ≡ rem (2 * power) p → At m p q next (e + 1)
+  at-next power e next a n k = record {
+    least = omega (arith, a .least);
+    most = omega (arith, at-before power e a n);
+    is =
+        k
+        ∙ ap (λ (y : ℕ). rem (2 * y) p) (a .is)
+        ∙ sym (timesX-rem p (omega (arith, big)) (rem (2 ^ e) p) (rem-lt p (omega (arith, big)) (2 ^ e)))
+        ∙ sym (rem-power-suc p big e)
+        ∙ ap (λ (j : ℕ). rem (2 ^ j) p) (sym (add-one e));
+  }
