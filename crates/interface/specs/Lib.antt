@@ -1,0 +1,2 @@
+-- What the functions that C calls return and leave behind. Assumes nothing.
+pub mod Boundary
