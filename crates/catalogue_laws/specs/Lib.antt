@@ -5,3 +5,4 @@ pub mod Lookup
 pub mod Outcome
 pub mod Reader
 pub mod Example
+pub mod Bytes
