@@ -2,3 +2,7 @@
 pub mod Form
 pub mod Reading
 pub mod Lookup
+pub mod Outcome
+pub mod Reader
+pub mod Example
+pub mod Bytes
