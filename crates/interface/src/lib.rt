@@ -1,13 +1,26 @@
 // The public calls for C, as include/fenyurka.h declares them: a refusal's number is returned, 0 where there is none, and answers go
 // through pointers. A refusal writes nothing.
 ghost use mathlib.Core.Path.{_≡_};
-ghost use Rattle.definitions.specs.Answers.{judgementValues, uniformityValues, openingValues};
-ghost use Rattle.definitions.specs.Calls.{judgement, uniformity};
-ghost use Rattle.definitions.specs.Catalogue.{opening};
+ghost use Rattle.definitions.specs.Answers.{judgementValues, uniformityValues, pointsValues, openingValues, lookupValues};
+ghost use Rattle.definitions.specs.Calls.{judgement, uniformity, pointsAnswer, pointsSlice};
+ghost use Rattle.definitions.specs.Catalogue.{opening, lookupNumbers, nextRow, nextPlace};
 ghost use Rattle.interface.specs.Boundary.{returned, stored};
+ghost use Rattle.interface.specs.Located.{bodyOffset};
+ghost use Rattle.interface.specs.Rows.{rowStatus, rowSlice, rowNext};
+use catalogue::form;
+use catalogue::seek;
+use catalogue::seek::Sought;
 use definitions::Judgement;
+use definitions::NextRow;
 use definitions::Opening;
+use definitions::PointsAnswer;
+use definitions::Refusal;
 use definitions::Uniformity;
+
+pub mod numbers; // a row's numbers over the front of a slice
+
+// What reading a row returns at the end of a body.
+const AT_END: u32 = 1;
 
 // The step of a pair.
 #[no_mangle]
@@ -39,6 +52,29 @@ pub extern "C" fn fenyurka_t_value(degree: u32, p: u32, q: u32, dimension: u32, 
     }
 }
 
+// Words of a pair's period, and how many were written.
+#[no_mangle]
+pub extern "C" fn fenyurka_points(
+    degree: u32,
+    p: u32,
+    q: u32,
+    first: u32,
+    words: &mut [u32],
+    count: &mut usize,
+) -> u32
+    ensures { λ r. ⌜ r ≡ returned (pointsValues (pointsAnswer degree p q first (now (words .entry)))) ⌝ }
+    ensures { λ r. ⌜ now (words .exit) ≡ pointsSlice degree p q first (now (words .entry)) ⌝ }
+    ensures { λ r. ⌜ now (count .exit) ≡ stored (pointsValues (pointsAnswer degree p q first (now (words .entry)))) 1 (now (count .entry)) ⌝ }
+{
+    match points::points(degree, p, q, first, words) {
+        PointsAnswer::Written(found) => {
+            *count = found;
+            0
+        }
+        PointsAnswer::NotWritten(refusal) => answers::refusal_number(refusal),
+    }
+}
+
 // How many degrees a catalogue has.
 #[no_mangle]
 pub extern "C" fn fenyurka_open(file: &[u8], entries: &mut u32) -> u32
@@ -51,5 +87,58 @@ pub extern "C" fn fenyurka_open(file: &[u8], entries: &mut u32) -> u32
             0
         }
         Opening::Closed(refusal) => answers::refusal_number(refusal),
+    }
+}
+
+// The top dimension and the row count of a degree's body, and its place in the file.
+#[no_mangle]
+pub extern "C" fn fenyurka_lookup(
+    file: &[u8],
+    degree: u32,
+    top: &mut u32,
+    rows: &mut u32,
+    offset: &mut usize,
+) -> u32
+    ensures { λ r. ⌜ r ≡ returned (lookupValues (lookupNumbers (now (file .entry)) degree)) ⌝ }
+    ensures { λ r. ⌜ now (top .exit) ≡ stored (lookupValues (lookupNumbers (now (file .entry)) degree)) 1 (now (top .entry)) ⌝ }
+    ensures { λ r. ⌜ now (rows .exit) ≡ stored (lookupValues (lookupNumbers (now (file .entry)) degree)) 2 (now (rows .entry)) ⌝ }
+    ensures { λ r. ⌜ now (offset .exit) ≡ bodyOffset (now (file .entry)) degree (now (offset .entry)) ⌝ }
+{
+    match seek::seek(file, degree) {
+        Sought::At(i) => {
+            *top = form::entry_top(file, i);
+            *rows = form::entry_rows(file, i);
+            *offset = form::entry_offset(file, i) as usize;
+            0
+        }
+        Sought::Missing(refusal) => answers::refusal_number(refusal),
+    }
+}
+
+// The row at a place of a body and the place behind it, the end, or that the slice is too short.
+#[no_mangle]
+pub extern "C" fn fenyurka_row(
+    body: &[u8],
+    degree: u32,
+    top: u32,
+    place: usize,
+    row: &mut [u32],
+    next: &mut usize,
+) -> u32
+    ensures { λ r. ⌜ r ≡ rowStatus top (now (row .entry)) (nextRow degree top (now (body .entry)) place) ⌝ }
+    ensures { λ r. ⌜ now (row .exit) ≡ rowSlice top (now (row .entry)) (nextRow degree top (now (body .entry)) place) ⌝ }
+    ensures { λ r. ⌜ now (next .exit) ≡ rowNext top (now (row .entry)) (nextPlace degree top (now (body .entry)) place) (now (next .entry)) (nextRow degree top (now (body .entry)) place) ⌝ }
+{
+    match catalogue::row_at(body, degree, top, place) {
+        NextRow::Found(found) => {
+            let width = top as usize + 1;
+            if row.len() < width {
+                return answers::refusal_number(Refusal::ShortSlice);
+            }
+            numbers::write(found, width, row);
+            *next = catalogue::place_behind(body, degree, top, place);
+            0
+        }
+        NextRow::End => AT_END,
     }
 }
