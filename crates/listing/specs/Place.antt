@@ -123,3 +123,10 @@ module _ (at : ℕ) (a b out : List ℕ) where
   pub then : {place r : ℕ} {mid exit : List ℕ} → at + length a + length b ≤ length out → place ≡ at + length a → mid ≡ over at a out
       → r ≡ place + length b → exit ≡ over place b mid → (r ≡ at + length (a ++ b)) × (exit ≡ over at (a ++ b) out)
   then h e k u v = (rw length-append (omega arith), v ∙ rw (e, k) (over-append at a b out (omega arith)))
+
+pub put-nothing : (at : ℕ) (out : List ℕ) → (at ≡ behind at [] out) × (out ≡ placed at [] out)
+put-nothing at out = go (leb (at + 0) (length out)) refl
+  where
+    go : (b : Bool) → leb (at + 0) (length out) ≡ b → (at ≡ behind at [] out) × (out ≡ placed at [] out)
+    go true e = put at [] out (leb-true (at + 0) (length out) e) (sym (add-zero at)) (sym (over-nothing at out))
+    go false e = not-put at [] out (leb-false (at + 0) (length out) e)
