@@ -17,6 +17,10 @@ use borrow.Author.Tests.{le-leb, lt-leb, leb-true, leb-false}
 unfoldable pub over : ℕ → List ℕ → List ℕ → List ℕ
 over at text out = take at out ++ text ++ drop (at + length text) out
 
+pub over-nothing : (at : ℕ) (out : List ℕ) → over at [] out ≡ out
+unfolding over
+over-nothing at out = simp (add-zero, append-nil) (take-append-drop at out)
+
 -- What a buffer holds after a text was put at a place.
 unfoldable pub placed : ℕ → List ℕ → List ℕ → List ℕ
 unfolding over
@@ -46,10 +50,6 @@ module _ (at : ℕ) (text out : List ℕ) where
   pub length-over : at + length text ≤ length out → length (over at text out) ≡ length out
   unfolding over
   length-over h = simp (length-append, length-take, length-drop) (omega arith)
-
-pub over-nothing : (at : ℕ) (out : List ℕ) → over at [] out ≡ out
-unfolding over
-over-nothing at out = simp (add-zero, append-nil) (take-append-drop at out)
 
 -- Two texts, one behind the other.
 pub over-append : (at : ℕ) (a b out : List ℕ) → at + length a ≤ length out → over (at + length a) b (over at a out) ≡ over at (a ++ b) out
@@ -130,3 +130,11 @@ put-nothing at out = go (leb (at + 0) (length out)) refl
     go : (b : Bool) → leb (at + 0) (length out) ≡ b → (at ≡ behind at [] out) × (out ≡ placed at [] out)
     go true e = put at [] out (leb-true (at + 0) (length out) e) (sym (add-zero at)) (sym (over-nothing at out))
     go false e = not-put at [] out (leb-false (at + 0) (length out) e)
+
+-- The place behind a text is still within the buffer.
+pub behind-within : (at : ℕ) (text out : List ℕ) → at ≤ length out → behind at text out ≤ length out
+behind-within at text out h = go (leb (at + length text) (length out)) refl
+  where
+    go : (b : Bool) → leb (at + length text) (length out) ≡ b → behind at text out ≤ length out
+    go true e = let k = leb-true (at + length text) (length out) e in rw (behind-fits at text out k) k
+    go false e = rw (behind-short at text out (leb-false (at + length text) (length out) e)) h
