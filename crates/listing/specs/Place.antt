@@ -131,10 +131,14 @@ put-nothing at out = go (leb (at + 0) (length out)) refl
     go true e = put at [] out (leb-true (at + 0) (length out) e) (sym (add-zero at)) (sym (over-nothing at out))
     go false e = not-put at [] out (leb-false (at + 0) (length out) e)
 
--- The place behind a text is still within the buffer.
-pub behind-within : (at : ℕ) (text out : List ℕ) → at ≤ length out → behind at text out ≤ length out
-behind-within at text out h = go (leb (at + length text) (length out)) refl
+-- The place behind a text is within the buffer, which stays as long as it was.
+pub put-within : (at : ℕ) (text out : List ℕ) {r : ℕ} {exit : List ℕ} → at ≤ length out → r ≡ behind at text out → exit ≡ placed at text out → r ≤ length exit
+put-within at text out h e k = rw (e, k) (go (leb (at + length text) (length out)) refl)
   where
-    go : (b : Bool) → leb (at + length text) (length out) ≡ b → behind at text out ≤ length out
-    go true e = let k = leb-true (at + length text) (length out) e in rw (behind-fits at text out k) k
-    go false e = rw (behind-short at text out (leb-false (at + length text) (length out) e)) h
+    go : (b : Bool) → leb (at + length text) (length out) ≡ b → behind at text out ≤ length (placed at text out)
+    go true f =
+        let room = leb-true (at + length text) (length out) f in
+        rw (behind-fits at text out room, placed-fits at text out room, length-over at text out room) room
+    go false f =
+        let short = leb-false (at + length text) (length out) f in
+        rw (behind-short at text out short, placed-short at text out short) h
