@@ -6,3 +6,4 @@ pub mod Outcome
 pub mod Reader
 pub mod Example
 pub mod Bytes
+pub mod Written
