@@ -7,3 +7,5 @@ pub mod Reader
 pub mod Example
 pub mod Bytes
 pub mod Written
+pub mod Files
+pub mod RoundTrip

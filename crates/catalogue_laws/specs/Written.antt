@@ -1,18 +1,18 @@
 -- Rows, written and read back: the bytes of a lawful row, wherever they stand, are of the form and read as the row; and so is each row of a body.
 -- A row field by field, each standing behind those before; a body row by row, each as long as a row is. Assumes nothing.
-use mathlib.Core.Path.{_≡_, refl, sym, ap, _∙_, subst}
-use mathlib.Core.Bool.{Bool, true}
+use mathlib.Core.Path.{_≡_, sym, ap, _∙_, subst}
+use mathlib.Core.Bool.{true}
 use mathlib.Core.List.{List, [], _∷_, _++_, map}
 use Prim.Native.Nat.{ℕ, zero, suc, _+_, _-_, _*_, _^_, _<_, _≤_}
-use native.Mathlib.Nat.{add-zero, zero-mul, suc-mul}
+use native.Mathlib.Nat.{zero-mul, suc-mul}
 use native.Mathlib.Omega.{arith}
 use native.Mathlib.Decide.{decLe}
-use lib.Dec.{leb, ltb}
+use lib.Dec.{leb}
 use lib.Pow.{pow-mono}
 use lib.ListN.{length, getD, drop, length-append, length-drop, List·getD-eq-default}
 use lib.Seq.{getD-drop}
-use borrow.Author.Tests.{lt-ltb, le-leb}
-use Rattle.definitions.specs.Number.{every, join}
+use borrow.Author.Tests.{le-leb}
+use Rattle.definitions.specs.Number.{join}
 use Rattle.definitions.specs.Catalogue.{byteAt, numberAt, bytesOf, rowSize, rowForm, tAt, rowAt, rowBytes}
 use Rattle.definitions.specs.declared.Row.{Row}
 use Rattle.number_laws.specs.Every.{every-in}
