@@ -53,7 +53,9 @@ pub fn number2(s: &[u8], i: usize) -> u32
     requires { ⌜ i + 2 ≤ length (now s) ⌝ }
     ensures { λ r. ⌜ (r ≡ numberAt 2 (now (s .entry)) i) × (r < 65536) ⌝ }
 {
-    byte(s, i) * 256 + byte(s, i + 1)
+    let high = byte(s, i);
+    let low = byte(s, i + 1);
+    high * 256 + low
 }
 
 // The number in the four bytes at i.
@@ -169,7 +171,8 @@ pub fn entry_form(s: &[u8], i: usize, last: u32, at: usize) -> bool
     if !lawful_top(top) {
         return false;
     }
-    if entry_offset(s, i) as usize != at {
+    let offset = entry_offset(s, i) as usize;
+    if offset != at {
         return false;
     }
     if rows * (top as usize + 4) > s.len() - at {

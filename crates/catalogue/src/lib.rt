@@ -6,10 +6,11 @@ pub mod seek;
 use definitions::Lookup;
 use definitions::NextRow;
 use definitions::Opening;
+use definitions::Reader;
 use definitions::Refusal;
 use seek::Sought;
 ghost use mathlib.Core.Path.{_≡_};
-ghost use Rattle.definitions.specs.Catalogue.{opening, lookupNumbers, lookupPart, nextRow, nextPlace};
+ghost use Rattle.definitions.specs.Catalogue.{opening, lookupNumbers, lookupPart, readerTop, nextRow, nextPlace};
 
 // How many degrees the catalogue has.
 pub fn open(file: &[u8]) -> Opening
@@ -63,4 +64,41 @@ pub fn place_behind(body: &[u8], degree: u32, top: u32, place: usize) -> usize
         return place;
     }
     place + top as usize + 4
+}
+
+// A reader of a degree's body, at its first row; over the empty part, and so at the end, where the lookup is refused.
+pub fn reader<'a>(file: &'a [u8], degree: u32) -> Reader<'a>
+    ensures { λ r. ⌜ (now (r .body) ≡ lookupPart (now (file .entry)) degree) × (r .degree ≡ degree) × (r .top ≡ readerTop (now (file .entry)) degree) × (r .place ≡ 0) ⌝ }
+{
+    let body = body(file, degree);
+    let top = seek::reader_top(file, degree);
+    Reader {
+        body,
+        degree,
+        top,
+        place: 0,
+    }
+}
+
+// The row that a reader is at, or the end.
+pub fn next<'a>(at: Reader<'a>) -> NextRow
+    ensures { λ r. ⌜ r ≡ nextRow (at .entry .degree) (at .entry .top) (now (at .entry .body)) (at .entry .place) ⌝ }
+{
+    row_at(at.body, at.degree, at.top, at.place)
+}
+
+// The reader behind that row; at the end it stays.
+pub fn advance<'a>(at: Reader<'a>) -> Reader<'a>
+    ensures { λ r. ⌜ (r .body ≡ at .entry .body) × (r .degree ≡ at .entry .degree) × (r .top ≡ at .entry .top) × (r .place ≡ nextPlace (at .entry .degree) (at .entry .top) (now (at .entry .body)) (at .entry .place)) ⌝ }
+{
+    let body = at.body;
+    let degree = at.degree;
+    let top = at.top;
+    let place = place_behind(body, degree, top, at.place);
+    Reader {
+        body,
+        degree,
+        top,
+        place,
+    }
 }

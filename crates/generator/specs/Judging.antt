@@ -1,8 +1,9 @@
 -- Judging a pair of a lawful degree, and its outcome at each situation. Assumes nothing.
-use mathlib.Core.Path.{_≡_, refl, ap, _∙_}
+use mathlib.Core.Path.{_≡_, refl, sym, _∙_}
 use mathlib.Core.Bool.{Bool, true, false, not}
 use mathlib.Core.List.{List, [], _∷_, _++_}
 use Prim.Native.Nat.{ℕ}
+use native.Mathlib.Omega.{arith}
 use lib.Dec.{eqb}
 use Rattle.definitions.specs.Answers.{Situation, situation, unless}
 use Rattle.definitions.specs.Calls.{pairSituations, judging, judgement}
@@ -53,3 +54,14 @@ module _ (m p q : ℕ) where
         pub accepted-pair : coprimeStep m p q ≡ true → pairJudgement m p q ≡ Accepted (step m p q)
         unfolding pairJudgement pairSituations unless
         accepted-pair c = rw (w, t, l, c)
+
+-- What is accepted is well-formed.
+pub accepted-well-formed : (m p q n : ℕ) → pairJudgement m p q ≡ Accepted n → wellFormed m p q ≡ true
+accepted-well-formed m p q n e = go (wellFormed m p q) refl
+  where
+    go : (b : Bool) → wellFormed m p q ≡ b → wellFormed m p q ≡ true
+    go true t = t
+    go false t =
+        let clash : Accepted n ≡ Rejected IllFormedPair = sym e ∙ ill-formed m p q t in
+        let z : _≡_ {A = ℕ} 0 1 = cc in
+        absurd (omega arith)

@@ -2,3 +2,4 @@
 pub mod Laws
 pub mod PowerLaws
 pub mod ValueLaws
+pub mod UniformityLaws

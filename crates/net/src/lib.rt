@@ -1,4 +1,28 @@
 // The t-value of a pair, by the least weight of a relation among its rows.
+ghost use mathlib.Core.Path.{_≡_};
+ghost use Rattle.definitions.specs.Calls.{uniformity};
+use definitions::Refusal;
+use definitions::Uniformity;
+use generator::degrees;
+use generator::pair;
+
+pub mod dimensions; // the dimensions that the library covers
 pub mod rows; // the powers of q modulo p
 pub mod search; // the least weight, one coordinate more at a time
 pub mod values; // t-values of one pair, each from the one before
+
+// The t-value of a pair of the degree given, or document 01's refusal 1, 2 or 3.
+pub fn t_value(degree: u32, p: u32, q: u32, dimension: u32) -> Uniformity
+    ensures { λ r. ⌜ r ≡ uniformity degree p q dimension ⌝ }
+{
+    if !degrees::is_lawful(degree) {
+        return Uniformity::Undefined(Refusal::WrongDegree);
+    }
+    if !dimensions::is_lawful(dimension) {
+        return Uniformity::Undefined(Refusal::WrongDimension);
+    }
+    if !pair::is_well_formed(degree, p, q) {
+        return Uniformity::Undefined(Refusal::IllFormedPair);
+    }
+    Uniformity::Value(values::t_at(degree, p, q, dimension as usize, 1))
+}

@@ -21,13 +21,13 @@ pub fn reduce(b: &[u32; 32], e: usize, r: u32) -> u32
     ensures { λ v. ⌜ v ≡ reduceAll (newest (now (b .entry)) e) r ⌝ }
 {
     let mut v = r;
-    let mut i = 0;
-    while i < e {
-        let sum = v ^ b[i];
+    let mut left = e;
+    while left > 0 {
+        let sum = v ^ b[e - left];
         if sum < v {
             v = sum;
         }
-        i += 1;
+        left -= 1;
     }
     v
 }

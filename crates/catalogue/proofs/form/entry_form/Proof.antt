@@ -89,8 +89,8 @@ returns-3 c = let a = c .before .before .before .before .before .before .before 
 entry-offset-requires : tie.Need-entry-offset-requires
 entry-offset-requires c κs = search needs
 
-cast-if4 : tie.Need-cast-if4
-cast-if4 c = search needs
+cast-offset : tie.Need-cast-offset
+cast-offset c = search needs
 
 returns-4 : tie.Need-returns-4
 returns-4 c = let a = c .before .before .before .before .before .before .before .before .before .before .before .args in
@@ -145,7 +145,7 @@ entry-form-spec =
     lawful-top-requires
     returns-3
     entry-offset-requires
-    cast-if4
+    cast-offset
     returns-4
     cast-if5
     add-if5

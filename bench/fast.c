@@ -1,0 +1,353 @@
+/* The header's functions in plain C made fast: what the library's figures are set beside. Nothing here is proved; tests/c holds it
+   against the reference as it does the library. Quick order tests, one walk down the tree for a page with the slice as workspace,
+   and for t the lightest linear relation between rows x^i q^j mod p, each dimension starting where the one before ended. */
+#include "fenyurka.h"
+
+#include <string.h>
+
+enum { MOST = 16 };
+
+/* The prime divisors of 2^m - 1. */
+static const uint16_t divisors[MOST + 1][4] = {
+    [2] = {3},          [3] = {7},        [4] = {3, 5},        [5] = {31},     [6] = {3, 7},
+    [7] = {127},        [8] = {3, 5, 17}, [9] = {7, 73},       [10] = {3, 11, 31}, [11] = {23, 89},
+    [12] = {3, 5, 7, 13}, [13] = {8191},  [14] = {3, 43, 127}, [15] = {7, 31, 151}, [16] = {3, 5, 17, 257},
+};
+
+/* Of a and a + b the one of lower degree, for b that has a's highest term or one above. */
+static inline uint32_t lower(uint32_t a, uint32_t b)
+{
+    return (a ^ b) < a ? a ^ b : a;
+}
+
+static inline uint32_t shift(uint32_t p, uint32_t a)
+{
+    return lower(2 * a, p);
+}
+
+static uint32_t times(uint32_t m, uint32_t p, uint32_t a, uint32_t b)
+{
+    uint32_t sum = 0;
+    b <<= 32 - m;
+    for (uint32_t i = m; i > 0; i--, b <<= 1)
+        sum = shift(p, sum) ^ (a & (uint32_t)((int32_t)b >> 31));
+    return sum;
+}
+
+/* The square has a's terms at double their places. */
+static uint32_t square(uint32_t m, uint32_t p, uint32_t a)
+{
+    a = (a | a << 8) & 0x00FF00FF;
+    a = (a | a << 4) & 0x0F0F0F0F;
+    a = (a | a << 2) & 0x33333333;
+    a = (a | a << 1) & 0x55555555;
+    p <<= m - 2;
+    for (uint32_t i = m - 1; i > 0; i--, p >>= 1)
+        a = lower(a, p);
+    return a;
+}
+
+static uint32_t power(uint32_t m, uint32_t p, uint32_t a, uint32_t e)
+{
+    uint32_t result = a;
+    for (int i = 30 - __builtin_clz(e); i >= 0; i--) {
+        result = square(m, p, result);
+        if (e >> i & 1)
+            result = a == 2 ? shift(p, result) : times(m, p, result, a);
+    }
+    return result;
+}
+
+/* No power of a to a proper divisor of 2^m - 1 is 1. */
+static int of_full_order(uint32_t m, uint32_t p, uint32_t a)
+{
+    uint32_t period = (1u << m) - 1;
+    for (int k = 0; k < 4 && divisors[m][k] != 0; k++)
+        if (period != divisors[m][k] && power(m, p, a, period / divisors[m][k]) == 1)
+            return 0;
+    return a != 1;
+}
+
+/* An even p has no order, and one with an even number of terms the factor x + 1. */
+static int primitive(uint32_t m, uint32_t p)
+{
+    uint32_t x = 2;
+    if (!(p & 1) || !(__builtin_popcount(p) & 1))
+        return 0;
+    if (m == 2)
+        return 1;
+    for (uint32_t i = 0; i < m; i++)
+        x = square(m, p, x);
+    return x == 2 && of_full_order(m, p, 2);
+}
+
+static int linear_quotients(uint32_t p, uint32_t q)
+{
+    while (q != 0) {
+        int d = __builtin_clz(q) - __builtin_clz(p);
+        if (d != 1)
+            return 0;
+        uint32_t r = p ^ q << 1;
+        if ((r ^ q) < r)
+            r ^= q;
+        if (r >= q && __builtin_clz(r) == __builtin_clz(q))
+            return 0;
+        p = q;
+        q = r;
+    }
+    return p == 1;
+}
+
+static uint32_t step_of(uint32_t p, uint32_t q)
+{
+    uint32_t a = 2, e = 1;
+    for (; a != q; e++)
+        a = shift(p, a);
+    return e;
+}
+
+static int well_formed(uint32_t m, uint32_t p, uint32_t q)
+{
+    return p >> m == 1 && q != 0 && q >> m == 0;
+}
+
+static uint32_t refusal_of(uint32_t m, uint32_t p, uint32_t q)
+{
+    if (!well_formed(m, p, q))
+        return 3;
+    if (!primitive(m, p))
+        return 4;
+    if (!linear_quotients(p, q))
+        return 5;
+    return of_full_order(m, p, q) ? 0 : 6;
+}
+
+uint32_t fenyurka_judge(uint32_t degree, uint32_t p, uint32_t q, uint32_t *step)
+{
+    if (degree - 2 > MOST - 2)
+        return 1;
+    uint32_t refusal = refusal_of(degree, p, q);
+    if (refusal == 0)
+        *step = step_of(p, q);
+    return refusal;
+}
+
+/* ---- t-values: the lightest relation between leading digits, m + 1 where there is none as light */
+
+struct search {
+    uint32_t m, p, q, reach, least, last;
+    uint32_t taken[MOST + 1], rows[8][MOST];
+};
+
+/* Rows of coordinates 0 .. c, `reach` more than one to come before a lighter relation: 2 where q has an inverse. */
+static void begin(struct search *s, uint32_t m, uint32_t p, uint32_t q, uint32_t reach)
+{
+    s->m = m;
+    s->p = p;
+    s->q = q;
+    s->reach = reach;
+    s->least = m + 1;
+    s->last = 1;
+    s->rows[0][0] = 1;
+}
+
+/* Takes rows of coordinate c, one after the other, over `count` taken ones, and looks below. A rest of b bits is a sum of the first
+   b rows of coordinate 0. */
+static void look(struct search *s, uint32_t c, uint32_t count, int must)
+{
+    if (!must && c > 1)
+        look(s, c - 1, count, 0);
+    for (uint32_t i = 0; count + s->reach < s->least && i < s->m; i++) {
+        uint32_t v = s->rows[c][i];
+        for (uint32_t k = 0; k < count; k++) {
+            uint32_t w = v ^ s->taken[k];
+            v = w < v ? w : v;
+        }
+        uint32_t weight = count + 1 + (v == 0 ? 0 : 32 - (uint32_t)__builtin_clz(v));
+        if (weight < s->least)
+            s->least = weight;
+        if (v == 0)
+            return;
+        s->taken[count++] = v;
+        if (c > 1)
+            look(s, c - 1, count, 0);
+    }
+}
+
+/* t of the next dimension, which is s->last + 1. */
+static uint32_t next_t(struct search *s)
+{
+    uint32_t c = s->last++, *row = s->rows[c];
+    row[0] = c == 1 ? s->q : times(s->m, s->p, s->rows[c - 1][0], s->q);
+    for (uint32_t i = 1; i < s->m; i++)
+        row[i] = shift(s->p, row[i - 1]);
+    look(s, c, 0, 1);
+    return s->m + 1 - s->least;
+}
+
+/* Whether p and q have no common factor. */
+static int invertible(uint32_t p, uint32_t q)
+{
+    while (q != 0) {
+        uint32_t r = p;
+        while (r != 0 && __builtin_clz(r) <= __builtin_clz(q))
+            r ^= q << (__builtin_clz(q) - __builtin_clz(r));
+        p = q;
+        q = r;
+    }
+    return p == 1;
+}
+
+uint32_t fenyurka_t_value(uint32_t degree, uint32_t p, uint32_t q, uint32_t dimension, uint32_t *t)
+{
+    struct search s;
+    uint32_t value = 0;
+    if (degree - 2 > MOST - 2)
+        return 1;
+    if (dimension - 1 > 7)
+        return 2;
+    if (!well_formed(degree, p, q))
+        return 3;
+    begin(&s, degree, p, q, invertible(p, q) ? 2 : 1);
+    while (s.last < dimension)
+        value = next_t(&s);
+    *t = value;
+    return 0;
+}
+
+/* ---- pages */
+
+struct page {
+    uint32_t m, top, after, position[9], *rows, more;
+    size_t count, room;
+};
+
+/* Compares the first `known` t-values, and p and q where all are known: below, equal or above 0. */
+static int compare(const uint32_t *a, const uint32_t *b, uint32_t known, uint32_t top)
+{
+    for (uint32_t s = 3; s <= known; s++)
+        if (a[s] != b[s])
+            return a[s] < b[s] ? -1 : 1;
+    if (known < top)
+        return 0;
+    if (a[0] != b[0])
+        return a[0] < b[0] ? -1 : 1;
+    return a[1] < b[1] ? -1 : a[1] > b[1];
+}
+
+static void insert(struct page *page, const uint32_t *row)
+{
+    size_t width = page->top + 1, i = page->count;
+    if (page->count == page->room)
+        page->more = 1, i--;
+    else
+        page->count++;
+    for (; i > 0 && compare(row, page->rows + (i - 1) * width, page->top, page->top) < 0; i--)
+        memcpy(page->rows + i * width, page->rows + (i - 1) * width, width * sizeof row[0]);
+    memcpy(page->rows + i * width, row, width * sizeof row[0]);
+}
+
+static void leaf(struct page *page, uint32_t p, uint32_t q)
+{
+    struct search s;
+    uint32_t row[9] = {p, q};
+    const uint32_t *worst = page->rows + (page->room - 1) * (page->top + 1);
+    if (!primitive(page->m, p) || !of_full_order(page->m, p, q))
+        return;
+    begin(&s, page->m, p, q, 2);
+    next_t(&s);
+    for (uint32_t d = 3; d <= page->top; d++) {
+        int floor;
+        row[d] = next_t(&s);
+        floor = page->after ? compare(row, page->position, d, page->top) : 1;
+        if (floor < 0 || (floor == 0 && d == page->top))
+            return;
+        if (page->count == page->room && compare(row, worst, d, page->top) > 0) {
+            page->more = 1;
+            return;
+        }
+    }
+    insert(page, row);
+}
+
+static void walk(struct page *page, uint32_t left, uint32_t f1, uint32_t f0)
+{
+    if (left == 0) {
+        leaf(page, f1, f0);
+        return;
+    }
+    walk(page, left - 1, f1 << 1 ^ f0, f1);
+    walk(page, left - 1, f1 << 1 ^ f1 ^ f0, f1);
+}
+
+static uint32_t fill(struct page *page, uint32_t *rows, size_t length, size_t *count, uint32_t *more)
+{
+    size_t width = page->top + 1;
+    if (length < width)
+        return 7;
+    page->rows = rows;
+    page->room = length / width;
+    walk(page, page->m, 1, 0);
+    for (size_t i = 0; i < page->count; i++)
+        rows[i * width + 2] = step_of(rows[i * width], rows[i * width + 1]);
+    *count = page->count;
+    *more = page->more;
+    return 0;
+}
+
+uint32_t fenyurka_first_page(uint32_t degree, uint32_t top, uint32_t *rows, size_t rows_length, size_t *count, uint32_t *more)
+{
+    struct page page = {.m = degree, .top = top};
+    if (degree - 2 > MOST - 2)
+        return 1;
+    if (top - 3 > 5)
+        return 2;
+    return fill(&page, rows, rows_length, count, more);
+}
+
+uint32_t fenyurka_page_after(uint32_t degree, uint32_t top, uint32_t p, uint32_t q, uint32_t *rows, size_t rows_length,
+                             size_t *count, uint32_t *more)
+{
+    struct page page = {.m = degree, .top = top, .after = 1, .position = {p, q}};
+    struct search s;
+    if (degree - 2 > MOST - 2)
+        return 1;
+    if (top - 3 > 5)
+        return 2;
+    uint32_t refusal = refusal_of(degree, p, q);
+    if (refusal != 0)
+        return refusal;
+    begin(&s, degree, p, q, 2);
+    next_t(&s);
+    for (uint32_t d = 3; d <= top; d++)
+        page.position[d] = next_t(&s);
+    return fill(&page, rows, rows_length, count, more);
+}
+
+/* ---- points */
+
+uint32_t fenyurka_points(uint32_t degree, uint32_t p, uint32_t q, uint32_t first, uint32_t *words, size_t words_length,
+                         size_t *count)
+{
+    if (degree - 2 > MOST - 2)
+        return 1;
+    uint32_t refusal = refusal_of(degree, p, q), period = (1u << degree) - 1;
+    if (refusal != 0)
+        return refusal;
+    if (first >= period)
+        return 8;
+    uint32_t x = first == 0 ? 1 : power(degree, p, q, first);
+    size_t n = words_length < period - first ? words_length : period - first;
+    for (size_t i = 0; i < n; i++) {
+        uint32_t rest = x, word = 0;
+        for (int d = 0; d < 32; d++) {
+            uint32_t down = 2 * rest, less = down ^ p;
+            word = 2 * word + (less < down);
+            rest = less < down ? less : down;
+        }
+        words[i] = word;
+        x = times(degree, p, q, x);
+    }
+    *count = n;
+    return 0;
+}

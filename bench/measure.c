@@ -1,0 +1,176 @@
+/* What is measured: each call of the header between two marks that the counter sees, for degrees 8, 10 .. 16. Prints a line for each
+   count: degree, how many units of work the count is to be divided by, what was measured. */
+#include "fenyurka.h"
+
+#include <stdio.h>
+#include <stdlib.h>
+#include <unistd.h>
+
+enum { TOP = 8, WIDTH = TOP + 1, MOST_ROWS = 3000, SAMPLE = 100, PERIOD = 65535 };
+
+static uint32_t degree, list[MOST_ROWS * WIDTH], room[PERIOD + 1];
+static uint8_t file[9 + MOST_ROWS * (TOP + 4)];
+static size_t rows, length;
+static volatile uint32_t sink;
+
+static void mark(void)
+{
+    sink = (uint32_t)getppid();
+}
+
+static void measured(const char *what, size_t units)
+{
+    mark();
+    printf("%u %zu %s\n", degree, units, what);
+}
+
+static void wrong(const char *what)
+{
+    printf("wrong answer: %s\n", what);
+    exit(1);
+}
+
+/* Row k of at most SAMPLE, spread over the list. */
+static const uint32_t *sample(size_t k)
+{
+    return list + (rows <= SAMPLE ? k : k * rows / SAMPLE) * WIDTH;
+}
+
+/* Well-formed pairs by a fixed recurrence. */
+static void draw(uint32_t *seed, uint32_t *p, uint32_t *q)
+{
+    uint32_t size = 1u << degree;
+    *seed = *seed * 1664525 + 1013904223;
+    *p = size + (*seed >> 7) % size;
+    *seed = *seed * 1664525 + 1013904223;
+    *q = 1 + (*seed >> 7) % (size - 1);
+}
+
+static void pages(void)
+{
+    size_t count;
+    uint32_t more;
+    mark();
+    if (fenyurka_first_page(degree, TOP, list, sizeof list / sizeof list[0], &rows, &more) != 0 || more)
+        wrong("whole list");
+    measured("page: whole list, T = 8", 1);
+    mark();
+    if (fenyurka_first_page(degree, TOP, room, 50 * WIDTH, &count, &more) != 0)
+        wrong("first page");
+    measured("page: first of 50 rows, T = 8", 1);
+    mark();
+    if (fenyurka_first_page(degree, 5, room, 50 * 6, &count, &more) != 0)
+        wrong("first page");
+    measured("page: first of 50 rows, T = 5", 1);
+    const uint32_t *middle = list + rows / 2 * WIDTH;
+    mark();
+    if (fenyurka_page_after(degree, TOP, middle[0], middle[1], room, 50 * WIDTH, &count, &more) != 0)
+        wrong("page after");
+    measured("page: 50 rows from the middle, T = 8", 1);
+}
+
+static void judging(void)
+{
+    uint32_t step = 0, p, q, seed = 1;
+    size_t n = rows < SAMPLE ? rows : SAMPLE;
+    mark();
+    for (size_t k = 0; k < n; k++)
+        if (fenyurka_judge(degree, sample(k)[0], sample(k)[1], &step) != 0 || step != sample(k)[2])
+            wrong("judging");
+    measured("judging an accepted pair", n);
+    mark();
+    for (int k = 0; k < 1000; k++) {
+        draw(&seed, &p, &q);
+        sink = fenyurka_judge(degree, p, q, &step);
+    }
+    measured("judging any pair", 1000);
+}
+
+static void t_values(void)
+{
+    uint32_t t = 0, p, q, seed = 2;
+    size_t n = rows < SAMPLE ? rows : SAMPLE;
+    for (uint32_t s = 5; s <= 8; s += 3) {
+        mark();
+        for (size_t k = 0; k < n; k++)
+            if (fenyurka_t_value(degree, sample(k)[0], sample(k)[1], s, &t) != 0 || t != sample(k)[s])
+                wrong("t-value");
+        measured(s == 5 ? "t(5) of an accepted pair" : "t(8) of an accepted pair", n);
+    }
+    mark();
+    for (int k = 0; k < SAMPLE; k++) {
+        draw(&seed, &p, &q);
+        sink = fenyurka_t_value(degree, p, q, 8, &t);
+    }
+    measured("t(8) of any pair", SAMPLE);
+}
+
+static void points(void)
+{
+    size_t count = 0, period = ((size_t)1 << degree) - 1;
+    mark();
+    if (fenyurka_points(degree, list[0], list[1], 0, room, PERIOD + 1, &count) != 0 || count != period)
+        wrong("points");
+    measured("points: a word of the whole period", period);
+    mark();
+    if (fenyurka_points(degree, list[0], list[1], (uint32_t)period / 2, room, 1, &count) != 0 || count != 1)
+        wrong("points");
+    measured("points: one word amid the period", 1);
+}
+
+static void put(uint32_t number, int width)
+{
+    for (int i = width; i-- > 0;)
+        file[length++] = (uint8_t)(number >> 8 * i);
+}
+
+/* The whole list as a catalogue. */
+static void write_catalogue(void)
+{
+    length = 0;
+    put(1, 1);
+    put(degree, 1);
+    put(TOP, 1);
+    put((uint32_t)rows, 2);
+    put(9, 4);
+    for (const uint32_t *row = list; row < list + rows * WIDTH; row += WIDTH) {
+        put(row[0] - (1u << degree), 2);
+        put(row[1], 2);
+        put(row[2], 2);
+        for (int s = 3; s <= TOP; s++)
+            put(row[s], 1);
+    }
+}
+
+static void catalogue(void)
+{
+    uint32_t entries = 0, top, count, row[WIDTH];
+    size_t offset, place = 0, read = 0;
+    write_catalogue();
+    mark();
+    if (fenyurka_open(file, length, &entries) != 0 || entries != 1)
+        wrong("opening");
+    measured("opening a catalogue, a row of it", rows);
+    mark();
+    if (fenyurka_lookup(file, length, degree, &top, &count, &offset) != 0 || count != rows)
+        wrong("lookup");
+    measured("looking a degree up, a row of it", rows);
+    mark();
+    while (fenyurka_row(file + offset, length - offset, degree, top, place, row, WIDTH, &place) == 0)
+        read++;
+    measured("reading a row", rows);
+    if (read != rows)
+        wrong("reading");
+}
+
+int main(void)
+{
+    for (degree = 8; degree <= 16; degree += 2) {
+        pages();
+        judging();
+        t_values();
+        points();
+        catalogue();
+    }
+    return 0;
+}

@@ -1,0 +1,33 @@
+-- `listing::line::write_field` writes a word and then the digits of a number behind it. Assumes nothing.
+use mathlib.Core.Path.{sym, _∙_, ap}
+use Prim.Native.Nat.{_+_, _≤_}
+use native.Mathlib.Omega.{arith}
+use denote.Ref.{now}
+use lib.ListN.{length, length-append}
+use borrow.Author.Needs.{needs}
+use Rattle.definitions.specs.Listing.{decimal}
+use Rattle.listing.specs.Place.{then, then-room}
+use Rattle.listing.proofs.line.write_field.Statement.{statement}
+use Rattle.listing.proofs.line.write_field.Tie as tie
+
+write-word-requires : tie.Need-write-word-requires
+write-word-requires c κs = search needs
+
+write-decimal-requires : tie.Need-write-decimal-requires
+write-decimal-requires c κs =
+    let called = c .before .before .before in
+    let a = called .before .before .before .before .args in
+    then-room (a .at) (now (a .word)) (decimal (a .n)) (now (a .out)) (called .write-word .ensures .0) (called .write-word .ensures .1) (omega arith)
+
+same-length : tie.Need-same-length
+same-length c = search needs
+
+returns : tie.Need-returns
+returns c =
+    let last = c .before .before in
+    let called = last .before .before .before .before in
+    let a = called .before .before .before .before .args in
+    then (a .at) (now (a .word)) (decimal (a .n)) (now (a .out)) (omega arith) (called .write-word .ensures .0) (called .write-word .ensures .1) (last .write-decimal .ensures .0) (last .write-decimal .ensures .1)
+
+pub write-field-spec : {M : Type 1} → statement M
+write-field-spec = tie.close (tie.spec write-word-requires write-decimal-requires same-length returns)

@@ -1,0 +1,51 @@
+-- `listing::put_row` puts a row's text where it fits. Assumes nothing.
+use mathlib.Core.Path.{sym, _∙_}
+use Prim.Native.Nat.{_-_, _<_, _≤_}
+use native.Mathlib.Omega.{arith}
+use denote.Ref.{now}
+use lib.ListN.{length}
+use borrow.Author.Needs.{needs}
+use borrow.Author.Tests.{leb-true, leb-false}
+use Rattle.definitions.specs.Listing.{rowText}
+use Rattle.listing.specs.Place.{put, not-put}
+use Rattle.listing.proofs.put_row.Statement.{statement}
+use Rattle.listing.proofs.put_row.Tie as tie
+
+returns : tie.Need-returns
+returns c =
+    let a = c .before .before .before .args in
+    not-put (a .at) (rowText (now (a .row))) (now (a .out)) (omega arith)
+
+sub-row-fits : tie.Need-sub-row-fits
+sub-row-fits c = search needs
+
+row-fits-requires : tie.Need-row-fits-requires
+row-fits-requires c κs = search needs
+
+write-row-requires : tie.Need-write-row-requires
+write-row-requires c κs =
+    let tested = c .before .before in
+    let a = tested .before .before .before .before .args in
+    let room : length (rowText (now (a .row))) ≤ length (now (a .out)) - a .at = leb-true _ _ (sym (tested .row-fits .ensures) ∙ c .before .if2 .taken) in
+    omega (arith, tested .before .if1 .left)
+
+same-length : tie.Need-same-length
+same-length c = search needs
+
+returns-2 : tie.Need-returns-2
+returns-2 c =
+    let wrote = c .before .before in
+    let tested = wrote .before .before .before in
+    let a = tested .before .before .before .before .args in
+    let room : length (rowText (now (a .row))) ≤ length (now (a .out)) - a .at = leb-true _ _ (sym (tested .row-fits .ensures) ∙ wrote .before .before .if2 .taken) in
+    put (a .at) (rowText (now (a .row))) (now (a .out)) (omega (arith, tested .before .if1 .left)) (wrote .write-row .ensures .0) (wrote .write-row .ensures .1)
+
+returns-3 : tie.Need-returns-3
+returns-3 c =
+    let tested = c .before in
+    let a = tested .before .before .before .before .args in
+    let short : length (now (a .out)) - a .at < length (rowText (now (a .row))) = leb-false _ _ (sym (tested .row-fits .ensures) ∙ c .if2 .left) in
+    not-put (a .at) (rowText (now (a .row))) (now (a .out)) (omega arith)
+
+pub put-row-spec : {M : Type 1} → statement M
+put-row-spec = tie.close (tie.spec returns sub-row-fits row-fits-requires write-row-requires same-length returns-2 returns-3)

@@ -1,0 +1,69 @@
+-- `listing::text::write_word` writes the word over what stood at the place. The invariant: what is left of the word, over what stands behind
+-- the i bytes written, is the whole word over what stood there at first. The measure is how many bytes are left. Assumes nothing.
+use mathlib.Core.Path.{_≡_, refl, sym, ap, _∙_}
+use Prim.Native.Nat.{ℕ, _+_, _-_, _≤_}
+use native.Mathlib.Nat.{add-zero}
+use native.Mathlib.Omega.{arith}
+use lib.ListN.{length, drop, length-set}
+use borrow.Author.Needs.{needs}
+use Rattle.listing.specs.Place.{over, over-turn, over-nothing, over-end}
+use Rattle.listing.proofs.text.write_word.Statement.{statement}
+use Rattle.listing.proofs.text.write_word.Tie as tie
+
+abbrev Inv-loop : tie.InvT-loop
+Inv-loop out₀ at word i₀ out i = (i ≤ length word) × (length out ≡ length out₀) × (over (at + i) (drop i word) out ≡ over at word out₀)
+
+abbrev μ-loop : tie.MeasureT-loop
+μ-loop out₀ at word i₀ out i = length word - i
+
+loop-holds : tie.Need-loop-holds Inv-loop μ-loop
+loop-holds c = (omega arith, refl, rw add-zero)
+
+shared-slice-read-out : tie.Need-shared-slice-read-out Inv-loop μ-loop
+shared-slice-read-out c = search needs
+
+add-out : tie.Need-add-out Inv-loop μ-loop
+add-out c = search needs
+
+slice-write-out : tie.Need-slice-write-out Inv-loop μ-loop
+slice-write-out c = omega arith
+
+add-i : tie.Need-add-i Inv-loop μ-loop
+add-i c = search needs
+
+loop-less : tie.Need-loop-less Inv-loop μ-loop
+loop-less c = omega arith
+
+loop-again : tie.Need-loop-again Inv-loop μ-loop
+loop-again c =
+    let now = c .before .before .loop in (
+      omega arith,
+      simp length-set (now .inv .1),
+      over-turn (c .before .before .before .args .at) _ (now .i) (now .out) (c .before .loop-test .taken) (omega arith) ∙ now .inv .2,
+    )
+
+add-result : tie.Need-add-result Inv-loop μ-loop
+add-result c = search needs
+
+same-length : tie.Need-same-length Inv-loop μ-loop
+same-length c = c .before .loop .inv .1
+
+returns : tie.Need-returns Inv-loop μ-loop
+returns c = (refl, over-end (c .before .before .args .at) _ (c .before .loop .i) (c .before .loop .out) (c .loop-test .left) ∙ c .before .loop .inv .2)
+
+pub write-word-spec : {M : Type 1} → statement M
+write-word-spec =
+    tie.close
+    (tie.spec
+    Inv-loop
+    μ-loop
+    loop-holds
+    shared-slice-read-out
+    add-out
+    slice-write-out
+    add-i
+    loop-less
+    loop-again
+    add-result
+    same-length
+    returns)

@@ -1,0 +1,97 @@
+-- A line is read word by word: the first word ends at the first space, and what is behind the space is the other words.
+-- What is asked, with some numbers read and the rest of the line to come, is settled by the next word.
+-- Assumes nothing.
+use mathlib.Core.Path.{_≡_, refl, sym, ap, _∙_}
+use mathlib.Core.Bool.{Bool, true, false, _&&_}
+use mathlib.Core.List.{List, [], _∷_, _++_, map, append-assoc}
+use Prim.Native.Nat.{ℕ, zero, suc, _+_, _-_, _*_, _≤_, _<_}
+use native.Mathlib.Numerals.{add-one}
+use native.Mathlib.Omega.{arith}
+use lib.Dec.{eqb, leb}
+use lib.ListN.{length, take, drop, getD, drop-of-length-le}
+use lib.Seq.{slice, slice-cons, slice-empty, length-slice, drop-cons, drop-at, take-add, length-take-le, append-snoc}
+use borrow.Author.Tests.{eq-eqb, ne-eqb, le-leb, lt-leb}
+use Rattle.definitions.specs.Listing.{newline, space, lineOf, wordsOf, extend, allDigits, isNumber, areNumbers, decimalFrom, asked, readLine}
+use Rattle.definitions.specs.declared.Line.{Line}
+use Rattle.definitions.specs.declared.Line.the-variants.{Asked, Unreadable}
+use Rattle.listing.specs.declared.input.Word.{Word}
+use Rattle.listing.specs.declared.input.Word.the-variants.{Number, NoNumber}
+
+-- What stands before the first such byte.
+unfoldable pub upTo : ℕ → List ℕ → List ℕ
+upTo b [] = []
+upTo b (x ∷ s) = elim (eqb x b) [ true ↦ [] | false ↦ x ∷ upTo b s ]
+
+-- The number that a word is, if it is one.
+unfoldable pub wordOf : List ℕ → Word
+wordOf w = elim (isNumber w) [ true ↦ Number (decimalFrom 0 w) | false ↦ NoNumber ]
+
+-- What is asked with some numbers read and some words to come.
+unfoldable pub askedWith : List ℕ → List (List ℕ) → Line
+askedWith read ws = elim (areNumbers ws) [ true ↦ asked (read ++ map (decimalFrom 0) ws) | false ↦ Unreadable ]
+
+-- What is asked with some numbers read and the rest of the line to come.
+unfoldable pub askedFrom : List ℕ → List ℕ → Line
+askedFrom read rest = askedWith read (wordsOf rest)
+
+pub read-line : (s : List ℕ) → readLine s ≡ askedFrom [] (lineOf s)
+unfolding readLine askedFrom askedWith
+read-line s = refl
+
+pub line-up-to : (s : List ℕ) → lineOf s ≡ upTo newline s
+unfolding lineOf upTo
+line-up-to [] = refl
+line-up-to (b ∷ s) = go (eqb b newline) refl (line-up-to s)
+  where
+    go : (t : Bool) → eqb b newline ≡ t → lineOf s ≡ upTo newline s → lineOf (b ∷ s) ≡ upTo newline (b ∷ s)
+    go true e ih = rw (e, lineOf, upTo)
+    go false e ih = rw (e, lineOf, upTo, ih)
+
+-- What stands before the first such byte, byte by byte, from a place on.
+module _ (b : ℕ) (s : List ℕ) (i : ℕ) where
+  pub up-to-found : i < length s → getD s i 0 ≡ b → upTo b (drop i s) ≡ []
+  unfolding upTo
+  up-to-found h e = rw (drop-cons s i 0 h, eq-eqb (getD s i 0) b e, upTo)
+
+  pub up-to-more : i < length s → (getD s i 0 ≡ b → ⊥) → length (upTo b (drop i s)) ≡ suc (length (upTo b (drop (i + 1) s)))
+  unfolding upTo
+  up-to-more h e = rw (drop-cons s i 0 h, ne-eqb (getD s i 0) b e, upTo, add-one i)
+
+  pub up-to-end : length s ≤ i → upTo b (drop i s) ≡ []
+  unfolding upTo
+  up-to-end h = rw (drop-of-length-le s h)
+
+pub up-to-take : (b : ℕ) (s : List ℕ) → take (length (upTo b s)) s ≡ upTo b s
+unfolding upTo
+up-to-take b [] = refl
+up-to-take b (x ∷ s) = go (eqb x b) refl (up-to-take b s)
+  where
+    go : (t : Bool) → eqb x b ≡ t → take (length (upTo b s)) s ≡ upTo b s → take (length (upTo b (x ∷ s))) (x ∷ s) ≡ upTo b (x ∷ s)
+    go true e ih = rw (e, upTo)
+    go false e ih = rw (e, upTo) (ap (λ (l : List ℕ). x ∷ l) ih)
+
+pub up-to-short : (b : ℕ) (s : List ℕ) → length (upTo b s) ≤ length s
+unfolding upTo
+up-to-short b [] = omega arith
+up-to-short b (x ∷ s) = go (eqb x b) refl (up-to-short b s)
+  where
+    go : (t : Bool) → eqb x b ≡ t → length (upTo b s) ≤ length s → length (upTo b (x ∷ s)) ≤ suc (length s)
+    go true e ih = rw (e, upTo) (omega arith)
+    go false e ih = rw (e, upTo) (omega arith)
+
+-- The part of a line from a place up to the next such byte.
+pub part-up-to : (b : ℕ) (s : List ℕ) (from : ℕ) → from ≤ length s → slice from (from + length (upTo b (drop from s))) s ≡ upTo b (drop from s)
+part-up-to b s from h =
+    rw (take-add from (length (upTo b (drop from s))) s)
+    (drop-at (take from s) (take (length (upTo b (drop from s))) (drop from s)) from (length-take-le from s h) ∙ up-to-take b (drop from s))
+
+-- The line is the part of the input up to the first newline.
+module _ (s : List ℕ) {end : ℕ} (e : end ≡ 0 + length (upTo newline s)) where
+  end-is : end ≡ length (upTo newline s)
+  end-is = omega arith
+
+  pub line-part : askedFrom [] (take end s) ≡ readLine s
+  line-part = rw (read-line s, line-up-to s, end-is) (ap (askedFrom []) (up-to-take newline s))
+
+  pub line-part-length : end ≡ length (take end s)
+  line-part-length = sym (length-take-le end s (omega (arith, up-to-short newline s)))

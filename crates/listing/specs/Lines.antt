@@ -1,0 +1,104 @@
+-- Lines of words and numbers: their lengths, and that their parts, written one behind the other, are the whole line.
+-- Assumes nothing.
+use mathlib.Core.Path.{_≡_, refl, sym, ap, _∙_}
+use mathlib.Core.Bool.{Bool, true, false, cond}
+use mathlib.Core.List.{List, [], _∷_, _++_, append-assoc}
+use Prim.Native.Nat.{ℕ, suc, _+_, _≤_, _<_}
+use native.Mathlib.Omega.{arith}
+use lib.Dec.{leb}
+use lib.ListN.{length, set, length-append}
+use Rattle.definitions.specs.Listing.{decimal, newline, degreeWord, topWord, pageWord, rowsWord, moreWord, endWord, totalWord, refusedWord, headerText, pageText, totalText, refusedText}
+use Rattle.listing.specs.Place.{over, over-byte, length-over, then, fits-true, fits-false}
+
+-- A word, a number and a newline.
+abbrev pub shortLine : List ℕ → ℕ → List ℕ
+shortLine word n = word ++ decimal n ++ newline ∷ []
+
+-- Two words with their numbers, and an ending.
+abbrev pub longLine : List ℕ → ℕ → List ℕ → ℕ → List ℕ → List ℕ
+longLine word n other k ending = word ++ decimal n ++ other ++ decimal k ++ ending
+
+module _ (word : List ℕ) (n : ℕ) where
+  pub line-length : length (shortLine word n) ≡ length word + length (decimal n) + 1
+  line-length = simp length-append
+
+  -- The test with the digits counted.
+  module _ (at : ℕ) (out : List ℕ) {d : ℕ} (e : d ≡ length (decimal n)) where
+    counted : length word + d + 1 ≡ length (shortLine word n)
+    counted = omega (arith, line-length)
+
+    pub line-room : leb (at + (length word + d + 1)) (length out) ≡ true → at + length (shortLine word n) ≤ length out
+    line-room = fits-true at (length word + d + 1) (shortLine word n) out counted
+
+    pub line-short : leb (at + (length word + d + 1)) (length out) ≡ false → length out < at + length (shortLine word n)
+    line-short = fits-false at (length word + d + 1) (shortLine word n) out counted
+
+  pub line-end : (at : ℕ) (out : List ℕ) {place : ℕ} {mid : List ℕ} → at + length (shortLine word n) ≤ length out
+      → place ≡ at + length (word ++ decimal n) → mid ≡ over at (word ++ decimal n) out
+      → (place < length mid) × (place + 1 ≡ at + length (shortLine word n)) × (set mid place newline ≡ over at (shortLine word n) out)
+  line-end at out {place} {mid} h e k =
+      let field = length-append word (decimal n) in
+      let whole = line-length in
+      let inside : place < length mid = rw (k, length-over at (word ++ decimal n) out (omega arith)) (omega arith) in
+      (inside, omega arith, then at (word ++ decimal n) (newline ∷ []) out (omega arith) e k refl (over-byte place newline mid inside) .1)
+
+module _ (word : List ℕ) (n : ℕ) (other : List ℕ) (k : ℕ) (ending : List ℕ) where
+  pub long-length : length (longLine word n other k ending) ≡ length word + length (decimal n) + length other + length (decimal k) + length ending
+  long-length = simp length-append
+
+  -- The test with the digits counted.
+  module _ (at : ℕ) (out : List ℕ) {d e : ℕ} (p : d ≡ length (decimal n)) (q : e ≡ length (decimal k)) where
+    long-counted : length word + d + length other + e + length ending ≡ length (longLine word n other k ending)
+    long-counted = omega (arith, long-length)
+
+    pub long-room : leb (at + (length word + d + length other + e + length ending)) (length out) ≡ true → at + length (longLine word n other k ending) ≤ length out
+    long-room = fits-true at (length word + d + length other + e + length ending) (longLine word n other k ending) out long-counted
+
+    pub long-short : leb (at + (length word + d + length other + e + length ending)) (length out) ≡ false → length out < at + length (longLine word n other k ending)
+    long-short = fits-false at (length word + d + length other + e + length ending) (longLine word n other k ending) out long-counted
+
+  module _ (at : ℕ) (out : List ℕ) (room : at + length (longLine word n other k ending) ≤ length out) {first : ℕ} {mid : List ℕ} (e : first ≡ at + length (word ++ decimal n)) (f : mid ≡ over at (word ++ decimal n) out) where
+    pub second-room : first + length other + length (decimal k) ≤ length mid
+    second-room =
+        let whole = long-length in
+        let field = length-append word (decimal n) in
+        rw (f, length-over at (word ++ decimal n) out (omega arith)) (omega arith)
+
+    module _ {second : ℕ} {late : List ℕ} (e′ : second ≡ first + length (other ++ decimal k)) (f′ : late ≡ over first (other ++ decimal k) mid) where
+      both : (second ≡ at + length (word ++ decimal n ++ (other ++ decimal k))) × (late ≡ over at (word ++ decimal n ++ (other ++ decimal k)) out)
+      both =
+          let whole = long-length in
+          let one = length-append word (decimal n) in
+          let two = length-append other (decimal k) in
+          then at (word ++ decimal n) (other ++ decimal k) out (omega arith) e f e′ f′
+
+      pub ending-room : second + length ending ≤ length late
+      ending-room =
+          let whole = long-length in
+          let fields : length (word ++ decimal n ++ (other ++ decimal k)) ≡ length word + length (decimal n) + length other + length (decimal k) = simp length-append (omega arith) in
+          let place = both .0 in
+          rw (both .1, length-over at (word ++ decimal n ++ (other ++ decimal k)) out (omega arith)) (omega arith)
+
+      pub long-end : {r : ℕ} {exit : List ℕ} → r ≡ second + length ending → exit ≡ over second ending late
+          → (r ≡ at + length (longLine word n other k ending)) × (exit ≡ over at (longLine word n other k ending) out)
+      long-end u v =
+          let whole = long-length in
+          let fields : length (word ++ decimal n ++ (other ++ decimal k)) ≡ length word + length (decimal n) + length other + length (decimal k) = simp length-append (omega arith) in
+          rw (append-assoc (word ++ decimal n) other (decimal k)) (then at (word ++ decimal n ++ (other ++ decimal k)) ending out (omega arith) (both .0) (both .1) u v)
+
+-- Each line of the listing as such a line.
+pub header-line : (m top : ℕ) → headerText m top ≡ longLine degreeWord m topWord top (newline ∷ [])
+unfolding headerText
+header-line m top = refl
+
+pub page-line : (number rows : ℕ) (further : Bool) → pageText number rows further ≡ longLine pageWord number rowsWord rows (cond further moreWord endWord ++ newline ∷ [])
+unfolding pageText
+page-line number rows further = append-assoc (pageWord ++ decimal number ++ rowsWord ++ decimal rows) (cond further moreWord endWord) (newline ∷ [])
+
+pub total-line : (rows : ℕ) → totalText rows ≡ shortLine totalWord rows
+unfolding totalText
+total-line rows = refl
+
+pub refused-line : (number : ℕ) → refusedText number ≡ shortLine refusedWord number
+unfolding refusedText
+refused-line number = refl

@@ -1,0 +1,103 @@
+-- `points::points` meets its contract: each test says whether its situation applies, and behind the last one the words are written.
+-- Assumes nothing.
+use mathlib.Core.Path.{_≡_, sym, _∙_}
+use mathlib.Core.Bool.{true}
+use Prim.Native.Nat.{_^_, _-_, _≤_}
+use native.Mathlib.Omega.{arith}
+use denote.Ref.{now}
+use borrow.Author.Needs.{needs}
+use borrow.Author.Tests.{not-true, not-false}
+use Rattle.definitions.specs.Generator.{lawfulDegree}
+use Rattle.fraction_laws.specs.WellFormed.{wellFormed-is}
+use Rattle.generator.specs.Lawful.{Lawful, lawful-is, top-low, top-high}
+use Rattle.generator.specs.Judging.{accepted-well-formed}
+use Rattle.points.specs.Answering.{answered-unlawful, answered-rejected, answered-beyond, answered-written, words-left}
+use Rattle.points.proofs.points.Statement.{statement}
+use Rattle.points.proofs.points.Tie as tie
+
+is-lawful-requires : tie.Need-is-lawful-requires
+is-lawful-requires c κs = search needs
+
+returns : tie.Need-returns
+returns c = answered-unlawful _ _ _ _ _ (sym (c .before .is-lawful .ensures) ∙ not-true _ (c .if1 .taken))
+
+lawful : (c : tie.Else1) → lawfulDegree (c .before .before .before .args .degree) ≡ true
+lawful c = sym (c .before .is-lawful .ensures) ∙ not-false _ (c .if1 .left)
+
+covered : (c : tie.Else1) → Lawful (c .before .before .before .args .degree)
+covered c = lawful-is _ .0 (lawful c)
+
+judge-pair-requires : tie.Need-judge-pair-requires
+judge-pair-requires c κs = covered c
+
+enum-known-refusal : tie.Need-enum-known-refusal
+enum-known-refusal c = search needs
+
+enum-told : tie.Need-enum-told
+enum-told c = search needs
+
+leading-term-requires : tie.Need-leading-term-requires
+leading-term-requires c κs = covered (c .before .before .before)
+
+sub-last : tie.Need-sub-last
+sub-last c = omega (arith, c .leading-term .ensures, top-low (covered (c .before .before .before .before)))
+
+returns-2 : tie.Need-returns-2
+returns-2 c =
+    let at = c .before .before .before .before .before in
+    let told = c .before .before .enum-told .given in
+    answered-beyond _ _ _ _ _ (lawful at) (told .0 .0) (sym (c .before .before .before .before .judge-pair .ensures) ∙ told .1) (omega (arith, c .before .leading-term .ensures))
+
+cast-smaller : tie.Need-cast-smaller
+cast-smaller c = search needs
+
+add-smaller : tie.Need-add-smaller
+add-smaller c = search needs
+
+smaller-requires : tie.Need-smaller-requires
+smaller-requires c κs = search needs
+
+write-requires : tie.Need-write-requires
+write-requires c κs =
+    let at = c .before .before .before .before .before .before .before in
+    let told = c .before .before .before .before .enum-told .given in
+    (covered at, (wellFormed-is _ _ _ .0 (accepted-well-formed _ _ _ (told .0 .0) (sym (c .before .before .before .before .before .before .judge-pair .ensures) ∙ told .1)), omega (arith, c .before .smaller .ensures)))
+
+returns-3 : tie.Need-returns-3
+returns-3 c =
+    let told = c .before .refusal .given in
+    answered-rejected _ _ _ _ _ (lawful (c .before .before .before .before)) (told .0 .0) (sym (c .before .before .before .judge-pair .ensures) ∙ told .1)
+
+same-length : tie.Need-same-length
+same-length c = search needs
+
+returns-4 : tie.Need-returns-4
+returns-4 c =
+    let at = c .before .before .before .before .before .before .before .before .before .before in
+    let told = c .before .before .before .before .before .before .before .enum-told .given in
+    let top = c .before .before .before .before .before .before .leading-term .ensures in
+    answered-written _ _ _ _ _ (lawful at) (told .0 .0) _ _ (sym (c .before .before .before .before .before .before .before .before .before .judge-pair .ensures) ∙ told .1)
+    (omega (arith, top))
+    (c .before .before .before .before .smaller .ensures
+    ∙ words-left _ _ _ (now (at .before .before .before .args .out)) top (omega (arith, top, top-low (covered at))) (c .before .before .before .before .before .if2 .left))
+    (c .before .before .write .ensures)
+
+pub points-spec : {M : Type 1} → statement M
+points-spec =
+    tie.close
+    (tie.spec
+    is-lawful-requires
+    returns
+    judge-pair-requires
+    enum-known-refusal
+    enum-told
+    leading-term-requires
+    sub-last
+    returns-2
+    cast-smaller
+    add-smaller
+    smaller-requires
+    write-requires
+    returns-3
+    same-length
+    returns-4)

@@ -1,0 +1,33 @@
+// Points: the words of a pair's full period, written to a lent slice.
+ghost use mathlib.Core.Path.{_≡_};
+ghost use Rattle.definitions.specs.Calls.{pointsAnswer, pointsSlice};
+use definitions::Judgement;
+use definitions::PointsAnswer;
+use definitions::Refusal;
+use generator::degrees;
+use generator::pair;
+
+pub mod word; // one word: the first 32 digits of a residue over p
+pub mod words; // the words from an index on
+
+// Writes words first, first + 1, .. until the slice or the period ends, and says how many; or document 01's refusal 1, 3, 4, 5, 6 or 8.
+pub fn points(degree: u32, p: u32, q: u32, first: u32, out: &mut [u32]) -> PointsAnswer
+    ensures answer { λ a. ⌜ a ≡ pointsAnswer degree p q first (now (out .entry)) ⌝ }
+    ensures slice { λ a. ⌜ now (out .exit) ≡ pointsSlice degree p q first (now (out .entry)) ⌝ }
+{
+    if !degrees::is_lawful(degree) {
+        return PointsAnswer::NotWritten(Refusal::WrongDegree);
+    }
+    match pair::judge_pair(degree, p, q) {
+        Judgement::Rejected(refusal) => PointsAnswer::NotWritten(refusal),
+        Judgement::Accepted(_) => {
+            let last = degrees::leading_term(degree) - 2;
+            if first > last {
+                return PointsAnswer::NotWritten(Refusal::BeyondPeriod);
+            }
+            let count = words::smaller(out.len(), (last - first) as usize + 1);
+            words::write(degree, p, q, first, count, out);
+            PointsAnswer::Written(count)
+        }
+    }
+}

@@ -1,0 +1,37 @@
+/* One call of the library at a time, held against the reference, with chance and counts. */
+#ifndef CALLS_H
+#define CALLS_H
+
+#include <stddef.h>
+#include <stdint.h>
+
+/* The seed; a 32-bit number; a number below n. */
+extern uint64_t chance;
+uint32_t draw(void);
+uint32_t below(uint32_t n);
+
+enum { EXTREMES = 31 };
+extern const uint32_t extremes[EXTREMES];
+
+/* A degree, nearly always m. */
+uint32_t near(uint32_t m);
+
+enum { MOST_BYTES = 1 << 21 };
+
+void try_judge(uint32_t m, uint32_t p, uint32_t q);
+void try_t_value(uint32_t m, uint32_t p, uint32_t q, uint32_t dimension);
+void try_page(uint32_t m, uint32_t top, int after, uint32_t p, uint32_t q, size_t length);
+void try_walk(uint32_t m, uint32_t top, uint32_t least, uint32_t most);
+void try_points(uint32_t m, uint32_t p, uint32_t q, uint32_t first, size_t length);
+void try_open(const uint8_t *bytes, size_t length);
+void try_lookup(const uint8_t *bytes, size_t length, uint32_t m);
+uint32_t try_row(const uint8_t *bytes, size_t length, uint32_t m, uint32_t top, size_t place, size_t row_length);
+
+/* Catalogues whole and damaged; readers over any bytes. */
+void catalogues(unsigned rounds);
+void readers(unsigned rounds);
+
+/* Prints what was compared and how often; 1 where anything differed. */
+int report(void);
+
+#endif

@@ -1,0 +1,195 @@
+/* Holds the library, through its header, against the reference: which pairs, pages and points are compared. Prints what was
+   compared and how often; exit status 1 on any difference. An argument is the seed of the random part. */
+#include "calls.h"
+#include "reference.h"
+
+#include <stdio.h>
+#include <stdlib.h>
+
+/* ---- all pairs of small degrees */
+
+static void small_pages(uint32_t m, uint32_t top)
+{
+    size_t all;
+    const uint32_t *list = reference_list(m, top, &all);
+    for (size_t length = 0; length <= (all + 2) * (top + 1); length++) {
+        try_page(m, top, 0, 0, 0, length);
+        for (size_t i = 0; i < all; i++)
+            try_page(m, top, 1, list[i * (top + 1)], list[i * (top + 1) + 1], length);
+    }
+    for (uint32_t rows = 1; rows <= all + 1; rows++)
+        try_walk(m, top, rows, rows);
+    for (int i = 0; i < 20; i++)
+        try_walk(m, top, 1, (uint32_t)all + 1);
+}
+
+static void small_points(uint32_t m, uint32_t p, uint32_t q)
+{
+    uint32_t step, period = ((uint32_t)1 << m) - 1;
+    if (reference_judge(m, p, q, &step) != 0) {
+        try_points(m, p, q, below(period + 2), below(period + 2));
+        return;
+    }
+    for (uint32_t first = 0; first <= period + 1; first++)
+        for (size_t length = 0; length <= period + 2; length++)
+            try_points(m, p, q, first, length);
+}
+
+static void small_degree(uint32_t m)
+{
+    uint32_t size = (uint32_t)1 << m;
+    for (uint32_t p = 0; p <= 2 * size + 2; p++)
+        for (uint32_t q = 0; q <= size + 2; q++) {
+            try_judge(m, p, q);
+            small_points(m, p, q);
+            try_page(m, LEAST_TOP + below(6), 1, p, q, below(40));
+            for (uint32_t s = 0; s <= 9; s++)
+                try_t_value(m, p, q, s);
+        }
+    for (uint32_t top = LEAST_TOP; top <= MOST_TOP; top++)
+        small_pages(m, top);
+}
+
+/* ---- random pairs to degree 16 */
+
+/* A pair down the tree: each quotient x or x + 1. */
+static void draw_leaf(uint32_t m, uint32_t *p, uint32_t *q)
+{
+    *p = 1;
+    *q = 0;
+    for (uint32_t k = 0; k < m; k++) {
+        uint32_t longer = 2 * *p ^ (below(2) ? *p : 0) ^ *q;
+        *q = *p;
+        *p = longer;
+    }
+}
+
+/* A pair of some kind: accepted, nearly so, down the tree and mostly with p primitive, well-formed, or of numbers as they come. */
+static void draw_pair(uint32_t m, uint32_t *p, uint32_t *q)
+{
+    size_t all;
+    uint32_t size = (uint32_t)1 << m, kind = below(8);
+    const uint32_t *list = reference_list(m, LEAST_TOP, &all);
+    *p = size + below(size);
+    *q = 1 + below(size - 1);
+    if (kind < 4 && all > 0) {
+        const uint32_t *row = list + 4 * below((uint32_t)all);
+        *p = row[0] ^ (kind == 2 ? (uint32_t)1 << below(m + 2) : 0);
+        *q = row[1] ^ (kind == 3 ? (uint32_t)1 << below(m + 1) : 0);
+    } else if (kind == 4) {
+        uint32_t step;
+        for (int i = 0; i == 0 || (i < 40 && reference_judge(m, *p, *q, &step) == 4); i++)
+            draw_leaf(m, p, q);
+    } else if (kind == 5 && all > 0)
+        *p = list[4 * below((uint32_t)all)];
+    else if (kind == 6 && below(2))
+        *(below(2) ? p : q) = draw();
+}
+
+static void random_pairs(unsigned rounds)
+{
+    uint32_t p, q;
+    for (unsigned i = 0; i < rounds; i++) {
+        uint32_t m = LEAST_DEGREE + below(15);
+        draw_pair(m, &p, &q);
+        try_judge(near(m), p, q);
+        draw_pair(m, &p, &q);
+        try_t_value(near(m), p, q, below(20) == 0 ? extremes[below(EXTREMES)] : 1 + below(8));
+    }
+}
+
+static void random_points(unsigned rounds)
+{
+    uint32_t p, q;
+    for (unsigned i = 0; i < rounds; i++) {
+        uint32_t m = LEAST_DEGREE + below(15), period = ((uint32_t)1 << m) - 1, kind = below(8);
+        uint32_t first = kind == 0 ? 0 : kind == 1 ? period - 1 - below(3) : kind == 2 ? period + below(3) : below(period);
+        size_t length = below(3) == 0 ? below(4) : below(300);
+        if (kind == 3)
+            first = extremes[below(EXTREMES)];
+        if (kind == 4)
+            length = (size_t)period - first + below(50);
+        draw_pair(m, &p, &q);
+        try_points(near(m), p, q, first, length);
+    }
+}
+
+/* Page calls that search: fewer the higher the degree. */
+static void random_pages(void)
+{
+    static const unsigned rounds[MOST_DEGREE + 1] = {[7] = 400, 300, 300, 200, 100, 50, 24, 16, 10, 8};
+    for (uint32_t m = 7; m <= MOST_DEGREE; m++) {
+        size_t all;
+        for (unsigned i = 0; i < rounds[m]; i++) {
+            uint32_t top = LEAST_TOP + below(6), width = top + 1;
+            const uint32_t *row = reference_list(m, top, &all) + below((uint32_t)all) * width;
+            size_t rows = below(3) ? below(60) : below((uint32_t)all + 2);
+            try_page(m, top, below(4) != 0, row[0], row[1], rows * width + below(width));
+        }
+        for (uint32_t top = LEAST_TOP; top <= MOST_TOP; top += m < 12 ? 1 : 5) {
+            try_walk(m, top, (uint32_t)all / 3 + 1, (uint32_t)all / 3 + 1);
+            if (m < 12)
+                try_walk(m, top, 1 + (uint32_t)all / 20, 1 + (uint32_t)all / 4);
+        }
+        for (unsigned i = 0; i < 200; i++) {
+            uint32_t p, q, step;
+            draw_pair(m, &p, &q);
+            if (reference_judge(m, p, q, &step) != 0)
+                try_page(near(m), below(12), 1, p, q, below(40));
+        }
+    }
+}
+
+/* ---- extreme numbers in every place */
+
+static void extreme_pages(uint32_t m, uint32_t top)
+{
+    static const size_t lengths[] = {0, 1, 3, 4, 5, 8, 9, 10, 100};
+    for (size_t k = 0; k < sizeof lengths / sizeof lengths[0]; k++) {
+        if (m <= 10 || m > MOST_DEGREE || lengths[k] <= top)
+            try_page(m, top, 0, 0, 0, lengths[k]);
+        try_page(m, top, 1, extremes[below(EXTREMES)], extremes[below(EXTREMES)], lengths[k]);
+    }
+}
+
+static void extreme_numbers(void)
+{
+    for (int a = 0; a < EXTREMES; a++)
+        for (int b = 0; b < EXTREMES; b++) {
+            extreme_pages(extremes[a], extremes[b]);
+            for (int c = 0; c < EXTREMES; c++) {
+                try_judge(extremes[a], extremes[b], extremes[c]);
+                for (int d = 0; d < EXTREMES; d += 1 + (int)below(3)) {
+                    try_t_value(extremes[a], extremes[b], extremes[c], extremes[d]);
+                    try_points(extremes[a], extremes[b], extremes[c], extremes[d], below(3));
+                }
+            }
+        }
+}
+
+/* ---- all of it */
+
+static void part(const char *what)
+{
+    printf("%s\n", what);
+    fflush(stdout);
+}
+
+int main(int argc, char **argv)
+{
+    chance = (argc > 1 ? strtoull(argv[1], NULL, 10) : 1) * 0x2545F4914F6CDD1Du | 1;
+    part("all pairs of degrees 2 to 6");
+    for (uint32_t m = LEAST_DEGREE; m <= 6; m++)
+        small_degree(m);
+    part("extreme numbers in every place");
+    extreme_numbers();
+    part("catalogues, whole and damaged");
+    catalogues(400);
+    readers(20000);
+    part("random pairs, first indices and buffers to degree 16");
+    random_pairs(8000);
+    random_points(3000);
+    part("random positions and walks to degree 16");
+    random_pages();
+    return report();
+}

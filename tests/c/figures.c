@@ -1,0 +1,158 @@
+/* Holds the reference to figures printed elsewhere: the examples of document 01, and Tables 1 and 2 of document 001 for m = 10 to
+   16, typed from their pages. Prints each comparison; exit status 1 where one fails that is not noted. */
+#include "reference.h"
+
+#include <inttypes.h>
+#include <stdio.h>
+#include <string.h>
+
+static unsigned long held, failed;
+
+static void hold(const char *what, uint32_t got, uint32_t expected)
+{
+    held++;
+    if (got != expected) {
+        failed++;
+        printf("%s: %" PRIu32 ", expected %" PRIu32 "\n", what, got, expected);
+    }
+}
+
+static void judging(void)
+{
+    static const uint32_t cases[][5] = {
+        /* degree, p, q, refusal, step */
+        {2, 7, 2, 0, 1},   {2, 7, 3, 0, 2},   {3, 11, 7, 0, 5}, {3, 13, 5, 0, 3},  {3, 11, 2, 5, 0},
+        {4, 31, 12, 4, 0}, {4, 31, 1, 4, 0},  {4, 19, 12, 6, 0}, {3, 16, 1, 3, 0},
+    };
+    for (size_t i = 0; i < sizeof cases / sizeof cases[0]; i++) {
+        const uint32_t *c = cases[i];
+        uint32_t step = 0;
+        hold("judging", reference_judge(c[0], c[1], c[2], &step), c[3]);
+        hold("step", step, c[4]);
+    }
+}
+
+static void t_values(void)
+{
+    static const uint32_t cases[][5] = {
+        /* degree, p, q, dimension, t */
+        {2, 7, 2, 1, 0},  {2, 7, 2, 2, 0},  {2, 7, 2, 3, 0},  {2, 7, 2, 4, 1},  {3, 11, 4, 1, 0}, {3, 11, 4, 2, 0},
+        {3, 11, 4, 3, 1}, {3, 11, 4, 4, 1}, {3, 11, 2, 2, 1}, {3, 11, 1, 2, 2}, {3, 8, 4, 2, 2},
+    };
+    for (size_t i = 0; i < sizeof cases / sizeof cases[0]; i++) {
+        const uint32_t *c = cases[i];
+        uint32_t t = 99;
+        hold("t-value", reference_t_value(c[0], c[1], c[2], c[3], &t), 0);
+        hold("t", t, c[4]);
+        hold("t by rank", reference_t_by_rank(c[0], c[1], c[2], c[3]), c[4]);
+    }
+}
+
+static void pages(void)
+{
+    static const uint32_t four[20] = {11, 4, 2, 1, 1, 11, 7, 5, 1, 1, 13, 5, 3, 1, 1, 13, 7, 4, 1, 1};
+    const uint32_t *rows;
+    size_t count = 9;
+    uint32_t more = 9;
+    hold("page 4 3", reference_page(4, 3, 0, 0, 0, 4, &rows, &count, &more), 0);
+    hold("rows", (uint32_t)count, 0);
+    hold("more", more, 0);
+    hold("page 3 4", reference_page(3, 4, 0, 0, 0, 20, &rows, &count, &more), 0);
+    hold("rows", (uint32_t)count, 4);
+    hold("more", more, 0);
+    hold("page 3 4, numbers", memcmp(rows, four, sizeof four) != 0, 0);
+    hold("page 3 4, slice of 4", reference_page(3, 4, 0, 0, 0, 4, &rows, &count, &more), 7);
+}
+
+static void words(void)
+{
+    static const uint32_t seven[7] = {0x2E5CB972, 0xB972E5CB, 0xE5CB972E, 0x972E5CB9, 0x5CB972E5, 0x72E5CB97, 0xCB972E5C};
+    uint32_t out[8];
+    size_t count = 9;
+    hold("points", reference_points(3, 11, 4, 0, out, 8, &count), 0);
+    hold("words", (uint32_t)count, 7);
+    hold("words' digits", memcmp(out, seven, sizeof seven) != 0, 0);
+}
+
+static void catalogue(void)
+{
+    static const uint8_t file[41] = {
+        0x01, 0x03, 0x04, 0x00, 0x04, 0x00, 0x00, 0x00, 0x09, 0, 3, 0, 4, 0, 2, 1, 1, 0, 3, 0, 7, 0, 5, 1, 1,
+        0,    5,    0,    5,    0,    3,    1,    1,    0,    5, 0, 7, 0, 4, 1, 1,
+    };
+    uint32_t entries = 99, top = 0, rows = 0, row[LONGEST_ROW];
+    size_t offset = 0, place = 0, count;
+    const uint32_t *list = reference_list(3, 4, &count);
+    hold("open", reference_open(file, sizeof file, &entries), 0);
+    hold("entries", entries, 1);
+    hold("lookup", reference_lookup(file, sizeof file, 3, &top, &rows, &offset), 0);
+    for (uint32_t r = 0; r < rows; r++) {
+        hold("row", (uint32_t)reference_row(file + offset, sizeof file - offset, 3, top, place, row, &place), 1);
+        hold("row's numbers", memcmp(row, list + 5 * r, 5 * sizeof row[0]) != 0, 0);
+    }
+    hold("end", (uint32_t)reference_row(file + offset, sizeof file - offset, 3, top, place, row, &place), 0);
+}
+
+/* A line of Table 1: m, its coefficients lowest first, the step; and of Table 2: t(2) .. t(8). */
+struct line {
+    uint32_t m;
+    const char *coefficients;
+    uint32_t step;
+    uint32_t t[7];
+    int agrees;
+};
+
+static const struct line lines[] = {
+    {10, "1 0 0 0 0 0 1 1 0 1 1 0 1 0 1 1 1 0 1 0 1", 70, {0, 3, 3, 4, 5, 5, 6}, 1},
+    {11, "1 1 0 0 1 0 0 1 1 0 1 1 0 1 0 0 0 0 1 1 1 0 1", 179, {0, 3, 3, 5, 6, 6, 6}, 1},
+    {12, "1 1 1 1 1 0 0 1 0 0 1 1 1 0 0 1 0 0 1 1 1 1 0 1 1", 146, {0, 3, 4, 5, 6, 6, 6}, 1},
+    {13, "1 1 1 0 1 0 0 0 1 0 1 1 1 1 1 0 1 0 1 1 1 1 1 0 0 1 1", 139, {0, 2, 3, 5, 6, 6, 7}, 1},
+    {14, "1 0 1 0 1 1 0 1 1 1 1 0 1 1 1 1 0 1 1 1 1 0 1 0 0 1 0 1 1", 5192, {0, 3, 4, 5, 7, 7, 7}, 1},
+    /* Our copy prints one coefficient too many here. */
+    {15, "1 1 0 1 1 0 0 1 1 1 0 1 0 1 1 1 0 0 1 1 0 1 1 1 1 0 0 0 0 0 1 1", 1028, {0, 3, 4, 6, 7, 8, 8}, 0},
+    /* The same without one of its four ones in a row: of all lines with one coefficient less the only one that is accepted. */
+    {15, "1 1 0 1 1 0 0 1 1 1 0 1 0 1 1 1 0 0 1 1 0 1 1 1 0 0 0 0 0 1 1", 1028, {0, 3, 4, 6, 7, 8, 8}, 1},
+    {16, "1 1 0 1 0 1 1 1 1 1 0 0 1 0 0 1 1 1 0 0 1 1 1 0 1 0 0 1 1 0 1 1 1", 12749, {0, 3, 4, 7, 7, 8, 10}, 1},
+};
+
+static void tables(void)
+{
+    for (size_t i = 0; i < sizeof lines / sizeof lines[0]; i++) {
+        const struct line *l = &lines[i];
+        uint32_t p = 0, q = 0, step = 0, k = 0;
+        int wrong;
+        for (const char *c = l->coefficients; *c != 0; c++) {
+            if (*c == ' ')
+                continue;
+            if (k <= l->m)
+                p |= (uint32_t)(*c - '0') << k;
+            else if (k <= 2 * l->m)
+                q |= (uint32_t)(*c - '0') << (k - l->m - 1);
+            k++;
+        }
+        uint32_t refusal = reference_judge(l->m, p, q, &step);
+        wrong = k != 2 * l->m + 1 || refusal != 0 || step != l->step;
+        printf("m %" PRIu32 " coefficients %" PRIu32 " pair %" PRIu32 " %" PRIu32 " printed step %" PRIu32 " refusal %" PRIu32
+               " step %" PRIu32 " t(2) .. t(8)", l->m, k, p, q, l->step, refusal, step);
+        for (uint32_t s = 2; s <= 8; s++) {
+            uint32_t t = reference_t_by_rank(l->m, p, q, s);
+            printf(" %" PRIu32, t);
+            wrong |= t != l->t[s - 2];
+        }
+        printf(wrong ? ": differs%s\n" : ": agrees%s\n", l->agrees ? "" : ", as noted");
+        held++;
+        failed += wrong == l->agrees;
+    }
+}
+
+int main(void)
+{
+    judging();
+    t_values();
+    pages();
+    words();
+    catalogue();
+    tables();
+    printf("figures: %lu held, %lu failed\n", held, failed);
+    return failed != 0;
+}

@@ -1,0 +1,44 @@
+/* Document 01 in plain C, slow and literal: what the library is held against. Shares nothing with it, not the header either. */
+#ifndef REFERENCE_H
+#define REFERENCE_H
+
+#include <stddef.h>
+#include <stdint.h>
+
+enum { LEAST_DEGREE = 2, MOST_DEGREE = 16, LEAST_TOP = 3, MOST_TOP = 8, MOST_DIMENSION = 8, LONGEST_ROW = 9 };
+
+static inline int lawful_degree(uint32_t m)
+{
+    return LEAST_DEGREE <= m && m <= MOST_DEGREE;
+}
+
+static inline int lawful_top(uint32_t top)
+{
+    return LEAST_TOP <= top && top <= MOST_TOP;
+}
+
+/* Each is a refusal's number, or 0 with the answer. */
+uint32_t reference_judge(uint32_t degree, uint32_t p, uint32_t q, uint32_t *step);
+uint32_t reference_t_value(uint32_t degree, uint32_t p, uint32_t q, uint32_t dimension, uint32_t *t);
+
+/* The t-value of a well-formed pair: by counting points in every box, and by the ranks of generating matrices. */
+uint32_t reference_t_by_counting(uint32_t degree, uint32_t p, uint32_t q, uint32_t dimension);
+uint32_t reference_t_by_rank(uint32_t degree, uint32_t p, uint32_t q, uint32_t dimension);
+
+/* The ranked list of a degree: its length, and its rows of top + 1 numbers one behind the other. Kept until the program ends. */
+const uint32_t *reference_list(uint32_t degree, uint32_t top, size_t *count);
+
+/* A page after the pair where `after` is not 0, else from the start; where no refusal, *rows are the rows that a slice takes. */
+uint32_t reference_page(uint32_t degree, uint32_t top, int after, uint32_t p, uint32_t q, size_t slice, const uint32_t **rows,
+                        size_t *count, uint32_t *more);
+
+/* The words of a period from `first` on, at most `slice` of them, into memory that takes them. */
+uint32_t reference_points(uint32_t degree, uint32_t p, uint32_t q, uint32_t first, uint32_t *words, size_t slice, size_t *count);
+
+uint32_t reference_open(const uint8_t *file, size_t length, uint32_t *entries);
+uint32_t reference_lookup(const uint8_t *file, size_t length, uint32_t degree, uint32_t *top, uint32_t *rows, size_t *offset);
+
+/* 1 where a reader has a row at the place, which is then in `row`, top + 1 numbers; 0 at the end. */
+int reference_row(const uint8_t *body, size_t length, uint32_t degree, uint32_t top, size_t place, uint32_t *row, size_t *next);
+
+#endif
