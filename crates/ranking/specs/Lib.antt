@@ -2,3 +2,4 @@
 pub mod Frame
 pub mod Standing
 pub mod Walk
+pub mod Serve
