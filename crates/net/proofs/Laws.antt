@@ -1,13 +1,12 @@
 -- The laws of one step of reduction, of the vectors in an array, and of one turn of the search; the rows handed on are those of the dual view.
 -- Each takes the invariant and the test, over plain numbers, to what a turn has to show. Assumes nothing.
 use mathlib.Core.Path.{_≡_, refl, sym, ap, ap₂, _∙_}
-use mathlib.Core.Bool.{Bool, true, false}
+use mathlib.Core.Bool.{true, false}
 use mathlib.Core.List.{List, [], _∷_}
-use Prim.Native.Nat.{ℕ, zero, suc, _+_, _-_, _*_, _^_, _≤_, _<_, min}
+use Prim.Native.Nat.{ℕ, zero, suc, _+_, _-_, _*_, _≤_, _<_, min}
 use native.Mathlib.Numerals.{add-one}
 use native.Mathlib.Omega.{arith}
 use lib.Dec.{ltb}
-use lib.Count.{leadingZeros}
 use lib.ListN.{getD, set, length, length-set}
 use lib.Seq.{getD-set-same, getD-set-other}
 use lib.Bits.{bitXor}
@@ -64,7 +63,8 @@ module _ (p : ℕ) (powers : List ℕ) (f : ℕ) where
   abbrev taken : ℕ → ℕ → ℕ → ℕ → List ℕ → ℕ → ℕ
   taken n j r e bs W = run p powers f n j (rem (2 * r) p) (suc e) (reduce bs r ∷ bs) (min W (suc e + size (reduce bs r)))
 
-  run-on : (n j r e : ℕ) (bs : List ℕ) (W : ℕ) → e + f < W → run p powers f (suc n) (suc j) r e bs W ≡ run p powers f n j (getD powers j 0) e bs (taken n (suc j) r e bs W)
+  run-on : (n j r e : ℕ) (bs : List ℕ) (W : ℕ) → e + f < W
+      → run p powers f (suc n) (suc j) r e bs W ≡ run p powers f n j (getD powers j 0) e bs (taken n (suc j) r e bs W)
   unfolding run
   run-on n j r e bs W l = rw (lt-ltb (e + f) W l, run)
 
@@ -86,7 +86,8 @@ module _ (p : ℕ) (powers : List ℕ) (f : ℕ) where
   at-bound j r e b W l = record { found = sym (run-off (j + (suc room - e)) j r e (newest b e) W l); kept = refl; less = omega arith; sized = refl }
 
   -- no row after this one can help
-  pub went-past : (j r e : ℕ) (b b3 : List ℕ) (W v least k : ℕ) → (j ≡ 0 → ⊥) → e + f < W → v ≡ reduce (newest b e) r → least ≡ min W (e + 1 + size v) → least ≤ e + 1 + f
+  pub went-past : (j r e : ℕ) (b b3 : List ℕ) (W v least k : ℕ) → (j ≡ 0 → ⊥) → e + f < W → v ≡ reduce (newest b e) r → least ≡ min W (e + 1 + size v)
+      → least ≤ e + 1 + f
       → Searched p powers f (j - 1) (getD powers (j - 1) 0) e b b3 least k → Searched p powers f j r e b b3 W k
   went-past zero r e b b3 W v least k nz on ev el off s2 = absurd (nz refl)
   went-past (suc j) r e b b3 W v least k nz on ev el off s2 =

@@ -1,15 +1,14 @@
 -- What a single t-value answers, test by test: the first of degree, dimension and pair that fails is the refusal, else the t-value.
 -- Assumes nothing.
 use mathlib.Core.Path.{_≡_, refl, ap, _∙_}
-use mathlib.Core.Bool.{Bool, true, false, not}
-use mathlib.Core.List.{List, [], _∷_}
+use mathlib.Core.Bool.{true, false, not}
+use mathlib.Core.List.{[], _∷_}
 use Prim.Native.Nat.{ℕ}
 use Rattle.definitions.specs.Answers.{Situation, situation, unless}
 use Rattle.definitions.specs.Calls.{measuring, uniformity}
 use Rattle.definitions.specs.Generator.{lawfulDegree, wellFormed}
 use Rattle.definitions.specs.Net.{tValue}
 use Rattle.definitions.specs.Ranking.{lawfulDimension}
-use Rattle.definitions.specs.declared.Refusal.{Refusal}
 use Rattle.definitions.specs.declared.Refusal.the-variants.{WrongDegree, WrongDimension, IllFormedPair}
 use Rattle.definitions.specs.declared.Uniformity.{Uniformity}
 use Rattle.definitions.specs.declared.Uniformity.the-variants.{Value, Undefined}

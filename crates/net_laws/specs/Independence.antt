@@ -2,15 +2,15 @@
 -- turned by a vector that keeps the others, which halves every count exactly. Rows that are not free leave a pattern out altogether.
 -- Assumes nothing.
 use mathlib.Core.Path.{_≡_, refl, sym, ap, ap₂, _∙_, fun-ext}
-use mathlib.Core.Bool.{Bool, true, false, not, _&&_, and-eq-true-iff, and-comm, and-false, true≢false, false≢true}
+use mathlib.Core.Bool.{Bool, true, false, not, _&&_, and-eq-true-iff, and-comm, true≢false, false≢true}
 use mathlib.Core.List.{List, [], _∷_}
-use Prim.Native.Nat.{ℕ, zero, suc, _+_, _*_, _^_, _<_}
+use Prim.Native.Nat.{ℕ, zero, suc, _*_, _^_, _<_}
 use native.Mathlib.Nat.{pow-suc}
 use native.Mathlib.Omega.{arith}
 use borrow.Author.Tests.{not-true}
 use lib.Pow.{pow-pos}
 use lib.ListN.{length, replicate, length-replicate}
-use Rattle.definitions.specs.Number.{count, bit}
+use Rattle.definitions.specs.Number.{count}
 use Rattle.definitions.specs.Polynomial.{_⊕_}
 use Rattle.number_laws.specs.Count.{count-none, count-every}
 use Rattle.net_laws.specs.Parity.{unlike, unlike-false, unlike-true, Linear, linear-zero, positive, parity, parity-zero, parity-linear, parity-comm, rowFor, rowFor-parity, rowFor-lt}
@@ -90,7 +90,8 @@ free-balanced m (r ∷ rs) small f (b ∷ bs) e =
     let half = count-half m P (parity r) v (turner-lt m r rs small (t .0)) (λ h. meets-keep rs bs v h (keeps m r rs small (t .0)))
     (λ h. parity-linear r h v ∙ ap (unlike (parity r h)) (turns m r rs small (t .0)) ∙ unlike-true (parity r h)) b in
     let ih = free-balanced m rs (small .1) (t .1) bs (omega arith) in
-    let swap : count (2 ^ m) (λ h. agrees b (parity r h) && P h) ≡ count (2 ^ m) (λ h. P h && agrees b (parity r h)) = ap (count (2 ^ m)) (fun-ext (λ h. and-comm (agrees b (parity r h)) (P h))) in
+    let swap : count (2 ^ m) (λ h. agrees b (parity r h) && P h) ≡ count (2 ^ m) (λ h. P h && agrees b (parity r h)) =
+    ap (count (2 ^ m)) (fun-ext (λ h. and-comm (agrees b (parity r h)) (P h))) in
     rw (swap, pow-suc 2 (length rs)) (omega (arith, ih, ap (λ (x : ℕ). x * 2 ^ length rs) half))
 
 -- ---- dependent rows miss a pattern

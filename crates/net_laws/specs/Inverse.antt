@@ -3,7 +3,7 @@
 -- the search may stop one row sooner.
 -- Assumes nothing.
 use mathlib.Core.Path.{_≡_, refl, sym, ap, ap₂, _∙_, fun-ext, subst}
-use mathlib.Core.Logic.{_⊎_, inl, inr}
+use mathlib.Core.Logic.{inl, inr}
 use mathlib.Core.Bool.{Bool, true, false, not, _&&_, and-comm, true≢false}
 use mathlib.Core.List.{List, [], _∷_, _++_}
 use Prim.Native.Nat.{ℕ, zero, suc, _+_, _*_, _/_, _^_, _≤_, _<_}
@@ -26,7 +26,7 @@ use Rattle.net_laws.specs.Net.{total}
 use Rattle.net_laws.specs.Pattern.{firstRows, rowsOf, meets-append, split, length-rows}
 use Rattle.net_laws.specs.Share.{shareRows, depends, shareRows-depends, free-depends-none, each-rows, each-firstRows}
 use Rattle.net_laws.specs.Search.{Reach, done}
-use Rattle.net_laws.specs.Weight.{Least, Sound, rows-reach, reach-rows, rowsFrom-none}
+use Rattle.net_laws.specs.Weight.{Sound, rows-reach, reach-rows, rowsFrom-none}
 use Rattle.net_laws.specs.Dual.{digitRow, digitRow-lt, digitRow-power, digitRow-coordinate, topDigit, image, image-parity, image-count}
 
 -- ---- the order of two blocks of rows does not matter
@@ -85,7 +85,8 @@ module _ (m : ℕ) (G : ℕ → ℕ → ℕ) (small : (j i : ℕ) → G j i < 2 
       go true e = refl
       go false e =
           let is-free : free (shareRows G d ds) ≡ true = shareRows-depends G d ds (λ i k. powers i (omega arith)) ∙ ap not e in
-          let fits : Each (λ r. r < 2 ^ m) (shareRows G d ds) = each-append (λ r. r < 2 ^ m) (rowsOf G 1 ds) (firstRows (G 0) d) (each-rows (λ r. r < 2 ^ m) G small ds 1) (each-firstRows (λ r. r < 2 ^ m) (G 0) (small 0) d) in
+          let fits : Each (λ r. r < 2 ^ m) (shareRows G d ds) =
+          each-append (λ r. r < 2 ^ m) (rowsOf G 1 ds) (firstRows (G 0) d) (each-rows (λ r. r < 2 ^ m) G small ds 1) (each-firstRows (λ r. r < 2 ^ m) (G 0) (small 0) d) in
           let ev : Balanced m (rowsOf G 1 (d ∷ ds)) = down (d ∷ ds) (balanced-swap m (rowsOf G 1 ds) (firstRows (G 0) d) (free-balanced m (shareRows G d ds) fits is-free)) in
           let up : free (rowsOf G 1 (d ∷ ds)) ≡ true = balanced-free m (rowsOf G 1 (d ∷ ds)) ev in
           absurd (true≢false (sym up ∙ free-depends-none (rowsOf G 1 (d ∷ ds)) ∙ ap not t))

@@ -1,7 +1,7 @@
 -- Nets as a statement: however m - t digits are shared among s coordinates, each box has 2^t of the 2^m points. The test `isNet` says just this.
 -- By the recursion of `everyShare` and `everyBox`, each of which asks its test of every share and of every box, and of nothing else.
 -- Assumes nothing.
-use mathlib.Core.Path.{_≡_, refl, sym, ap, ap₂, _∙_}
+use mathlib.Core.Path.{_≡_, refl, sym, ap, _∙_}
 use mathlib.Core.Logic.{_↔_}
 use mathlib.Core.Bool.{Bool, true, false, _&&_}
 use mathlib.Core.List.{List, [], _∷_}
@@ -10,7 +10,7 @@ use native.Mathlib.Omega.{arith}
 use lib.Dec.{eqb}
 use lib.ListN.{length}
 use borrow.Author.Tests.{eqb-true, eq-eqb}
-use Rattle.definitions.specs.Number.{every, count}
+use Rattle.definitions.specs.Number.{count}
 use Rattle.definitions.specs.Points.{leading, coordinate}
 use Rattle.definitions.specs.Net.{everyShare, everyBox, inBox, isNet}
 use Rattle.number_laws.specs.Every.{every-in, every-out}

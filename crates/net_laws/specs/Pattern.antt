@@ -3,9 +3,9 @@
 -- Assumes nothing.
 use mathlib.Core.Path.{_≡_, refl, sym, ap, ap₂, _∙_}
 use mathlib.Core.Logic.{_↔_}
-use mathlib.Core.Bool.{Bool, true, false, not, _&&_, and-eq-true-iff, and-assoc}
+use mathlib.Core.Bool.{Bool, true, false, _&&_, and-eq-true-iff, and-assoc}
 use mathlib.Core.List.{List, [], _∷_, _++_}
-use Prim.Native.Nat.{ℕ, zero, suc, _+_, _*_, _/_, _%_, _^_, _<_}
+use Prim.Native.Nat.{ℕ, zero, suc, _+_, _*_, _/_, _^_, _<_}
 use native.Mathlib.Nat.{pow-suc}
 use native.Mathlib.Omega.{arith}
 use lib.Arith.{lt-one}
@@ -84,7 +84,8 @@ unfolding meets
 meets-append [] ss [] bs h l = refl
 meets-append [] ss (a ∷ ps) bs h l = absurd (omega arith)
 meets-append (r ∷ rs) ss [] bs h l = absurd (omega arith)
-meets-append (r ∷ rs) ss (a ∷ ps) bs h l = ap (λ (z : Bool). agrees a (parity r h) && z) (meets-append rs ss ps bs h (omega arith)) ∙ sym (and-assoc (agrees a (parity r h)) (meets rs ps h) (meets ss bs h))
+meets-append (r ∷ rs) ss (a ∷ ps) bs h l = ap (λ (z : Bool). agrees a (parity r h) && z) (meets-append rs ss ps bs h (omega arith))
+    ∙ sym (and-assoc (agrees a (parity r h)) (meets rs ps h) (meets ss bs h))
 
 pub split : (a b : ℕ) (bs : List Bool) → length bs ≡ a + b → (ps : List Bool) × (cs : List Bool) × (bs ≡ ps ++ cs) × (length ps ≡ a) × (length cs ≡ b)
 split zero b bs l = ([], bs, refl, refl, omega arith)

@@ -9,10 +9,10 @@ use Prim.Native.Nat.{ℕ, zero, suc, _+_, _*_, _/_, _%_, _≤_, _<_}
 use native.Mathlib.Omega.{arith}
 use lib.Arith.{bin-ind}
 use lib.Dec.{ltb}
-use borrow.Author.Tests.{ltb-true, ltb-false, lt-ltb, le-ltb}
+use borrow.Author.Tests.{ltb-true, lt-ltb, le-ltb}
 use Rattle.definitions.specs.Number.{bit}
 use Rattle.definitions.specs.Polynomial.{_⊕_}
-use Rattle.polynomial_laws.specs.Sum.{⊕-self, ⊕-zero, zero-⊕, ⊕-assoc, ⊕-swap, ⊕-cancel-left, ⊕-injective}
+use Rattle.polynomial_laws.specs.Sum.{⊕-self, ⊕-zero, ⊕-assoc, ⊕-swap, ⊕-injective}
 use Rattle.net_laws.specs.Parity.{unlike, Linear, Additive, odd, odd-bit, ⊕-last, odd-⊕, half-⊕, digit-times, additive-zero}
 
 -- ---- definitions

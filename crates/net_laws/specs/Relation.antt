@@ -9,9 +9,9 @@ use Prim.Native.Nat.{ℕ, zero, suc, _^_, _<_}
 use native.Mathlib.Omega.{arith}
 use lib.ListN.{length}
 use Rattle.definitions.specs.Polynomial.{_⊕_}
-use Rattle.polynomial_laws.specs.Sum.{⊕-zero, zero-⊕, ⊕-self, ⊕-swap, ⊕-equal}
+use Rattle.polynomial_laws.specs.Sum.{⊕-zero, ⊕-self, ⊕-swap, ⊕-equal}
 use Rattle.net_laws.specs.Parity.{unlike, positive, digit-times}
-use Rattle.net_laws.specs.Reduction.{Each, each-map, reduce, basis, reduced, reduced-zero, reduced-kills, reduced-out, reduce-additive}
+use Rattle.net_laws.specs.Reduction.{Each, each-map, basis, reduced, reduced-zero, reduced-kills, reduced-out, reduce-additive}
 use Rattle.net_laws.specs.Independence.{Balanced, free, free-balanced, balanced-free}
 
 -- the sum of the rows that are chosen

@@ -2,10 +2,10 @@
 -- Two laws: the result is at most the weight of every relation that the search can come to (the same hypothesis justifies what it drops), and
 -- whatever holds of the weight it begins with and of the weight of every relation holds of the result.
 -- Assumes nothing.
-use mathlib.Core.Path.{_≡_, refl, sym, ap, _∙_}
+use mathlib.Core.Path.{_≡_, refl, ap}
 use mathlib.Core.Logic.{_⊎_, inl, inr}
 use mathlib.Core.Bool.{Bool, true, false, _||_}
-use mathlib.Core.List.{List, [], _∷_}
+use mathlib.Core.List.{List, _∷_}
 use Prim.Native.Nat.{ℕ, zero, suc, _+_, _^_, _≤_, _<_, min}
 use native.Mathlib.Omega.{arith}
 use native.Mathlib.Decide.{decLt}
@@ -93,7 +93,8 @@ module _ (G : ℕ → ℕ → ℕ) (f : ℕ) where
   search-le (suc n) (suc j) d e bs W =
       go (ltb (e + f) W) refl (search-le n (suc j) (suc d) (suc e) (reduce bs (G (suc j) d) ∷ bs) (min W (suc e + size (reduce bs (G (suc j) d))))) (search-le n j 0 e bs (taken n (suc j) d e bs W))
     where
-      go : (b : Bool) → ltb (e + f) W ≡ b → taken n (suc j) d e bs W ≤ min W (suc e + size (reduce bs (G (suc j) d))) → search n j 0 e bs (taken n (suc j) d e bs W) ≤ taken n (suc j) d e bs W → search (suc n) (suc j) d e bs W ≤ W
+      go : (b : Bool) → ltb (e + f) W ≡ b → taken n (suc j) d e bs W ≤ min W (suc e + size (reduce bs (G (suc j) d)))
+          → search n j 0 e bs (taken n (suc j) d e bs W) ≤ taken n (suc j) d e bs W → search (suc n) (suc j) d e bs W ≤ W
       go true t p q = rw (search-on n j d e bs W t) (omega arith)
       go false t p q = rw (search-off n j d e bs W t) (omega arith)
 
@@ -102,7 +103,8 @@ module _ (G : ℕ → ℕ → ℕ) (f : ℕ) where
   Floor j d rs W = (all : List ℕ) → Reach G j d rs all → (c : ℕ) → depends c all ≡ true → (f ≤ suc c) ⊎ (W ≤ length all + c)
 
   -- nothing lighter is left out where no smaller weight is possible
-  pruned : (j d : ℕ) (rs : List ℕ) (W : ℕ) → Covers G rs W → Floor j d rs W → W ≤ length rs + f → {all : List ℕ} → Reach G j d rs all → (c : ℕ) → depends c all ≡ true → W ≤ length all + c
+  pruned : (j d : ℕ) (rs : List ℕ) (W : ℕ) → Covers G rs W → Floor j d rs W → W ≤ length rs + f → {all : List ℕ} → Reach G j d rs all → (c : ℕ)
+      → depends c all ≡ true → W ≤ length all + c
   pruned j d rs W cov low l {all} x c t = go (longer G x) (low all x c t)
     where
       go : (all ≡ rs) ⊎ (length rs < length all) → (f ≤ suc c) ⊎ (W ≤ length all + c) → W ≤ length all + c
@@ -118,7 +120,8 @@ module _ (G : ℕ → ℕ → ℕ) (f : ℕ) where
       go (inr u) = inr (omega arith)
 
   -- one turn: by what is found where it goes on, or by what is known where it stops
-  turn : (n j d e : ℕ) (bs : List ℕ) (W : ℕ) (Q : ℕ → Type 0) → (ltb (e + f) W ≡ true → Q (search n j 0 e bs (taken n (suc j) d e bs W))) → (W ≤ e + f → Q W) → Q (search (suc n) (suc j) d e bs W)
+  turn : (n j d e : ℕ) (bs : List ℕ) (W : ℕ) (Q : ℕ → Type 0) → (ltb (e + f) W ≡ true → Q (search n j 0 e bs (taken n (suc j) d e bs W))) → (W ≤ e + f → Q W)
+      → Q (search (suc n) (suc j) d e bs W)
   turn n j d e bs W Q on off = go (ltb (e + f) W) refl
     where
       go : (b : Bool) → ltb (e + f) W ≡ b → Q (search (suc n) (suc j) d e bs W)
@@ -147,7 +150,8 @@ module _ (G : ℕ → ℕ → ℕ) (f : ℕ) where
       (λ l. pruned (suc j) d rs W cov low l (take x) c t)
 
   -- the result is the W that it began with or the weight of a relation
-  pub search-from : (Q : ℕ → Type 0) (n j d : ℕ) (rs : List ℕ) (W : ℕ) → Q W → ((all : List ℕ) → Reach G j d rs all → (c : ℕ) → depends c all ≡ true → Q (length all + c))
+  pub search-from : (Q : ℕ → Type 0) (n j d : ℕ) (rs : List ℕ) (W : ℕ) → Q W
+      → ((all : List ℕ) → Reach G j d rs all → (c : ℕ) → depends c all ≡ true → Q (length all + c))
       → Q (search n j d (length rs) (basis rs) W)
   unfolding search basis
   search-from Q zero j d rs W q hit = q

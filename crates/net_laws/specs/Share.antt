@@ -63,15 +63,18 @@ each-rows Q G a (d ∷ ds) j = each-append Q (firstRows (G j) d) (rowsOf G (suc 
 module _ (m t : ℕ) (le : t ≤ m) (x : ℕ → ℕ → ℕ → ℕ) (G : ℕ → ℕ → ℕ) (g : ℕ → ℕ) (dig : (h : ℕ) → h < 2 ^ m → Digits x G g h)
     (onto : (P : ℕ → Bool) → count (2 ^ m) (λ h. P (g h)) ≡ count (2 ^ m) P) (small : (j i : ℕ) → G j i < 2 ^ m) where
   -- the points in a box are the vectors of a pattern
-  box-count : (d r : ℕ) (ds rs : List ℕ) → r < 2 ^ d → Box ds rs → count (2 ^ m) (within x 0 (d ∷ ds) (r ∷ rs)) ≡ count (2 ^ m) (meets (shareRows G d ds) (pattern ds rs ++ digits d r))
+  box-count : (d r : ℕ) (ds rs : List ℕ) → r < 2 ^ d → Box ds rs
+      → count (2 ^ m) (within x 0 (d ∷ ds) (r ∷ rs)) ≡ count (2 ^ m) (meets (shareRows G d ds) (pattern ds rs ++ digits d r))
   unfolding within shareRows
   box-count d r ds rs l k =
       count-ext (2 ^ m) _ (λ h. meets (shareRows G d ds) (pattern ds rs ++ digits d r) (g h))
       (λ h b. ap₂ _&&_ (lead x G (g h) h (dig h b) 0 d r l) (box-meets x G (g h) h (dig h b) ds rs 1 k)
-      ∙ and-comm (meets (firstRows (G 0) d) (digits d r) (g h)) (meets (rowsOf G 1 ds) (pattern ds rs) (g h)) ∙ sym (meets-append (rowsOf G 1 ds) (firstRows (G 0) d) (pattern ds rs) (digits d r) (g h) (length-pattern ds rs k ∙ sym (length-rows G ds 1))))
+      ∙ and-comm (meets (firstRows (G 0) d) (digits d r) (g h)) (meets (rowsOf G 1 ds) (pattern ds rs) (g h))
+      ∙ sym (meets-append (rowsOf G 1 ds) (firstRows (G 0) d) (pattern ds rs) (digits d r) (g h) (length-pattern ds rs k ∙ sym (length-rows G ds 1))))
       ∙ onto (meets (shareRows G d ds) (pattern ds rs ++ digits d r))
 
-  balanced-boxes : (d : ℕ) (ds : List ℕ) → d + total ds ≡ m - t → Balanced m (shareRows G d ds) → (rs : List ℕ) → Box (d ∷ ds) rs → count (2 ^ m) (within x 0 (d ∷ ds) rs) ≡ 2 ^ t
+  balanced-boxes : (d : ℕ) (ds : List ℕ) → d + total ds ≡ m - t → Balanced m (shareRows G d ds) → (rs : List ℕ) → Box (d ∷ ds) rs
+      → count (2 ^ m) (within x 0 (d ∷ ds) rs) ≡ 2 ^ t
   unfolding Balanced Box
   balanced-boxes d ds e ev [] k = absurd k
   balanced-boxes d ds e ev (r ∷ rs) k =
@@ -80,7 +83,8 @@ module _ (m t : ℕ) (le : t ≤ m) (x : ℕ → ℕ → ℕ → ℕ) (G : ℕ �
       ∙ pow-cancel t (length (shareRows G d ds)) m _ (omega arith)
       (ev (pattern ds rs ++ digits d r) (length-append (pattern ds rs) (digits d r) ∙ ap₂ _+_ (length-pattern ds rs (k .1)) (length-digits d r) ∙ sym len))
 
-  boxes-balanced : (d : ℕ) (ds : List ℕ) → d + total ds ≡ m - t → ((rs : List ℕ) → Box (d ∷ ds) rs → count (2 ^ m) (within x 0 (d ∷ ds) rs) ≡ 2 ^ t) → Balanced m (shareRows G d ds)
+  boxes-balanced : (d : ℕ) (ds : List ℕ) → d + total ds ≡ m - t → ((rs : List ℕ) → Box (d ∷ ds) rs → count (2 ^ m) (within x 0 (d ∷ ds) rs) ≡ 2 ^ t)
+      → Balanced m (shareRows G d ds)
   unfolding Balanced Box
   boxes-balanced d ds e ev bs l =
       let len = length-shareRows G d ds in
@@ -126,7 +130,8 @@ module _ (Q : ℕ → Type 0) (closed : (a b : ℕ) → Q a → Q b → Q (a ⊕
       go (no x) ih =
           let two : 2 ^ suc d ≡ 2 ^ d * 2 = pow-suc 2 d in
           let low : l - 2 ^ d < 2 ^ d = omega arith in
-          let sum : 2 ^ d ⊕ (l - 2 ^ d) ≡ l = ⊕-def (2 ^ d) (l - 2 ^ d) ∙ ap (λ (x : ℕ). bitXor x (l - 2 ^ d)) (sym (one-mul (2 ^ d))) ∙ xor-shifted 1 d (l - 2 ^ d) low ∙ omega arith in
+          let sum : 2 ^ d ⊕ (l - 2 ^ d) ≡ l = ⊕-def (2 ^ d) (l - 2 ^ d) ∙ ap (λ (x : ℕ). bitXor x (l - 2 ^ d)) (sym (one-mul (2 ^ d)))
+          ∙ xor-shifted 1 d (l - 2 ^ d) low ∙ omega arith in
           subst Q sum (closed (2 ^ d) (l - 2 ^ d) (e .0) (ih (l - 2 ^ d) low))
 
 each-left : (Q : ℕ → Type 0) (xs ys : List ℕ) → Each Q (xs ++ ys) → Each Q xs × Each Q ys
@@ -200,7 +205,8 @@ unfolding depends
 depends-more d n [] l t = t
 depends-more d n (r ∷ rs) l t = go (ltb (reduced rs r) (2 ^ d)) refl t (depends-more d n rs l)
   where
-    go : (b : Bool) → ltb (reduced rs r) (2 ^ d) ≡ b → (b || depends d rs) ≡ true → (depends d rs ≡ true → depends n rs ≡ true) → (ltb (reduced rs r) (2 ^ n) || depends n rs) ≡ true
+    go : (b : Bool) → ltb (reduced rs r) (2 ^ d) ≡ b → (b || depends d rs) ≡ true → (depends d rs ≡ true → depends n rs ≡ true)
+        → (ltb (reduced rs r) (2 ^ n) || depends n rs) ≡ true
     go true e u ih = ap (λ (x : Bool). x || depends n rs) (lt-ltb (reduced rs r) (2 ^ n) (omega (arith, ltb-true (reduced rs r) (2 ^ d) e, pow-mono l)))
     go false e u ih = or-true (ltb (reduced rs r) (2 ^ n)) (depends n rs) (ih u)
       where

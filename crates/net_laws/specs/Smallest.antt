@@ -2,23 +2,20 @@
 -- Assumes nothing.
 use mathlib.Core.Path.{_≡_, refl, sym, ap, ap₂, _∙_, subst}
 use mathlib.Core.Logic.{inl, inr}
-use mathlib.Core.Bool.{Bool, true, false, _&&_, true≢false}
+use mathlib.Core.Bool.{true, false, _&&_, true≢false}
 use mathlib.Core.List.{List, [], _∷_}
-use Prim.Native.Nat.{ℕ, zero, suc, _+_, _-_, _*_, _^_, _≤_, _<_}
+use Prim.Native.Nat.{ℕ, zero, suc, _-_, _^_, _≤_, _<_}
 use native.Mathlib.Nat.{mul-one, zero-add}
 use native.Mathlib.Omega.{arith}
 use native.Mathlib.Decide.{decLe}
 use lib.Arith.{lt-one}
-use lib.ListN.{length}
-use lib.Pow.{pow-pos}
 use borrow.Author.Tests.{eq-eqb}
-use Rattle.definitions.specs.Number.{first, count}
-use Rattle.definitions.specs.Polynomial.{degree, prod, power, rem, quot}
+use Rattle.definitions.specs.Number.{first}
+use Rattle.definitions.specs.Polynomial.{prod, power, rem, quot}
 use Rattle.definitions.specs.Points.{leading, coordinate}
 use Rattle.definitions.specs.Net.{inBox, isNet, tValue}
 use Rattle.number_laws.specs.Count.{count-all}
-use Rattle.number_laws.specs.First.{Found, Missed, Outcome, first-outcome}
-use Rattle.polynomial_laws.specs.Degree.{HasDegree}
+use Rattle.number_laws.specs.First.{Outcome, first-outcome}
 use Rattle.polynomial_laws.specs.Division.{rem-lt, quot-small}
 use Rattle.net_laws.specs.Net.{total, Box, Net, isNet-net}
 
@@ -31,7 +28,8 @@ pub record SmallestNet (m p q s t : ℕ) : Type 0 where
 module _ (p : ℕ) (positive : 0 < p) where
   no-digits : (q j h : ℕ) → leading p 0 (coordinate p q j h) ≡ 0
   unfolding leading coordinate
-  no-digits q j h = ap (λ (y : ℕ). quot y p) (mul-one (rem (prod h (power q j)) p)) ∙ quot-small p positive (rem (prod h (power q j)) p) (rem-lt p positive (prod h (power q j)))
+  no-digits q j h = ap (λ (y : ℕ). quot y p) (mul-one (rem (prod h (power q j)) p))
+      ∙ quot-small p positive (rem (prod h (power q j)) p) (rem-lt p positive (prod h (power q j)))
 
   -- every point lies in the box of no digits
   in-whole : (q j h : ℕ) (ds rs : List ℕ) → total ds ≡ 0 → Box ds rs → inBox p q j ds rs h ≡ true

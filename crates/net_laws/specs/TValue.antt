@@ -2,20 +2,19 @@
 -- of s coordinates, at most m + 1. So t(1) = 0, t(s) never falls as s grows, and t(s) ≤ m. The search finds w(s) with the stop bound 1 for every
 -- pair, and with 2 where q has an inverse modulo p.
 -- Assumes nothing.
-use mathlib.Core.Path.{_≡_, refl, sym, ap, _∙_, subst}
+use mathlib.Core.Path.{_≡_, ap, _∙_, subst}
 use mathlib.Core.Logic.{_↔_}
-use mathlib.Core.Bool.{Bool, true, false}
-use Prim.Native.Nat.{ℕ, zero, suc, _+_, _-_, _*_, _^_, _≤_, _<_}
+use mathlib.Core.Bool.{true}
+use Prim.Native.Nat.{ℕ, suc, _-_, _^_, _≤_, _<_}
 use native.Mathlib.Omega.{arith}
 use lib.Pow.{pow-pos}
-use Rattle.definitions.specs.Number.{first}
 use Rattle.definitions.specs.Polynomial.{degree, prod, rem}
 use Rattle.definitions.specs.Net.{isNet, tValue}
 use Rattle.polynomial_laws.specs.Degree.{HasDegree, degree-unique}
 use Rattle.number_laws.specs.First.{first-to}
 use Rattle.net_laws.specs.Net.{NetOf, isNet-net, net-netOf, pointDigits}
-use Rattle.net_laws.specs.Weight.{weight, weight-one, weight-suc, level, level-le, Sound, sound-one, weight-least}
-use Rattle.net_laws.specs.Value.{LeastShare, first-least, first-weight, least-share}
+use Rattle.net_laws.specs.Weight.{weight, weight-one, weight-suc, level-le, Sound, sound-one, weight-least}
+use Rattle.net_laws.specs.Value.{LeastShare, first-least, least-share}
 use Rattle.net_laws.specs.Dual.{digitRow, digitRow-lt, digitRow-power, point-digits, image, image-count}
 use Rattle.net_laws.specs.Inverse.{sound-inverse}
 

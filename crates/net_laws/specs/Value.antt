@@ -54,7 +54,8 @@ module _ (G : ℕ → ℕ → ℕ) (m : ℕ) (powers : (i : ℕ) → i < m → G
 
   -- a digit more of coordinate 0 keeps what depends
   shareRows-more : (d n : ℕ) (ds : List ℕ) → d ≤ n → n ≤ m → free (shareRows G d ds) ≡ false → free (shareRows G n ds) ≡ false
-  shareRows-more d n ds l k f = shareRows-depends G n ds (λ i b. powers i (omega arith)) ∙ ap not (depends-more d n (rowsOf G 1 ds) l (not-false (depends d (rowsOf G 1 ds)) (sym (shareRows-depends G d ds (λ i b. powers i (omega arith))) ∙ f)))
+  shareRows-more d n ds l k f = shareRows-depends G n ds (λ i b. powers i (omega arith))
+      ∙ ap not (depends-more d n (rowsOf G 1 ds) l (not-false (depends d (rowsOf G 1 ds)) (sym (shareRows-depends G d ds (λ i b. powers i (omega arith))) ∙ f)))
 
 module _ (m : ℕ) (x : ℕ → ℕ → ℕ → ℕ) (G : ℕ → ℕ → ℕ) (g : ℕ → ℕ) (dig : (h : ℕ) → h < 2 ^ m → Digits x G g h)
     (onto : (P : ℕ → Bool) → count (2 ^ m) (λ h. P (g h)) ≡ count (2 ^ m) P) (small : (j i : ℕ) → G j i < 2 ^ m)

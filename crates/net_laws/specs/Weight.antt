@@ -2,11 +2,11 @@
 -- has. Coordinate j is added to what is known of those below it: a share without a row of j is one of theirs, so the search begins with row 0 of j.
 -- What the search comes to are exactly the rows of the shares.
 -- Assumes nothing.
-use mathlib.Core.Path.{_≡_, refl, sym, ap, _∙_, subst}
-use mathlib.Core.Logic.{_⊎_, inl, inr}
-use mathlib.Core.Bool.{Bool, true, false, false≢true}
+use mathlib.Core.Path.{_≡_, refl, ap, _∙_, subst}
+use mathlib.Core.Logic.{inl}
+use mathlib.Core.Bool.{true, false≢true}
 use mathlib.Core.List.{List, [], _∷_, _++_}
-use Prim.Native.Nat.{ℕ, zero, suc, _+_, _≤_, _<_, min}
+use Prim.Native.Nat.{ℕ, zero, suc, _+_, _≤_, min}
 use native.Mathlib.Omega.{arith}
 use lib.ListN.{length}
 use Rattle.net_laws.specs.Reduction.{reduce, basis}
@@ -117,7 +117,8 @@ abbrev pub rowsFrom : (ℕ → ℕ → ℕ) → ℕ → ℕ → List ℕ → Lis
 rowsFrom G zero d ds = rowsOf G 1 ds
 rowsFrom G (suc j) d ds = rowsOf G (suc j) (d ∷ ds)
 
-pub reach-rows : (G : ℕ → ℕ → ℕ) (j d : ℕ) (rs all : List ℕ) → Reach G j d rs all → (ds : List ℕ) → rs ≡ rowsFrom G j d ds → (es : List ℕ) × (all ≡ rowsOf G 1 es) × (length es ≡ j + length ds)
+pub reach-rows : (G : ℕ → ℕ → ℕ) (j d : ℕ) (rs all : List ℕ) → Reach G j d rs all → (ds : List ℕ) → rs ≡ rowsFrom G j d ds
+    → (es : List ℕ) × (all ≡ rowsOf G 1 es) × (length es ≡ j + length ds)
 unfolding rowsOf firstRows
 reach-rows G zero d rs all done ds e = (ds, e, omega arith)
 reach-rows G (suc j) d rs all (skip x) ds e = let r = reach-rows G j 0 rs all x (d ∷ ds) (e ∙ lower j) in (r .0, r .1, omega (arith, r .2))

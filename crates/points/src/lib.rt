@@ -8,6 +8,7 @@ use generator::degrees;
 use generator::pair;
 
 pub mod word; // one word: the first 32 digits of a residue over p
+pub mod tables; // the next state and the word by tables
 pub mod words; // the words from an index on
 
 // Writes words first, first + 1, .. until the slice or the period ends, and says how many; or document 01's refusal 1, 3, 4, 5, 6 or 8.

@@ -6,7 +6,7 @@ ghost use lib.ListN.{length, drop};
 ghost use Rattle.definitions.specs.Points.{words};
 ghost use Rattle.fraction_laws.specs.WellFormed.{WellFormed};
 ghost use Rattle.generator.specs.Lawful.{Lawful};
-use crate::word;
+use crate::tables;
 use generator::degrees;
 use polynomial::residues;
 
@@ -16,7 +16,8 @@ pub fn smaller(a: usize, b: usize) -> usize
     if a < b { a } else { b }
 }
 
-// Words first .. first + count - 1 over the front of the slice; what stands behind them stays. The first state by a power, each next times q.
+// Words first .. first + count - 1 over the front of the slice; what stands behind them stays. The first state by a power, each next times q:
+// two entries of the tables give the word, two the next state.
 pub fn write(m: u32, p: u32, q: u32, first: u32, count: usize, out: &mut [u32])
     requires { ⌜ Lawful m ⌝ }
     requires { ⌜ WellFormed m p q ⌝ }
@@ -25,10 +26,18 @@ pub fn write(m: u32, p: u32, q: u32, first: u32, count: usize, out: &mut [u32])
 {
     let top = degrees::leading_term(m);
     let mut y = residues::pow_mod(q, first, p, top);
+    let mut next_low = [0u32; tables::SIZE];
+    let mut word_low = [0u32; tables::SIZE];
+    tables::fill(m, p, q, 1, &mut next_low, &mut word_low);
+    let mut next_high = [0u32; tables::SIZE];
+    let mut word_high = [0u32; tables::SIZE];
+    tables::fill(m, p, q, 256, &mut next_high, &mut word_high);
     let mut i: usize = 0;
     while i < count {
-        out[i] = word::word_of(m, p, y);
-        y = residues::mul_mod(q, y, p, top);
+        let low = (y % 256) as usize;
+        let high = (y / 256) as usize;
+        out[i] = word_low[low] ^ word_high[high];
+        y = next_low[low] ^ next_high[high];
         i += 1;
     }
 }

@@ -1,9 +1,8 @@
 -- `net::values::next_t` meets its contract: t(s - 1) stands for the weight that the search starts from. Assumes nothing.
-use mathlib.Core.Path.{_≡_, refl, _∙_}
-use Prim.Native.Nat.{_+_, _-_, _≤_}
+use Prim.Native.Nat.{_-_}
 use native.Mathlib.Omega.{arith}
 use borrow.Author.Needs.{needs}
-use Rattle.net.proofs.ValueLaws.{modulus-of, weight-more, weight-le, weight-back, before-le, value-is}
+use Rattle.net.proofs.ValueLaws.{modulus-of, weight-more, weight-back, before-le, value-is}
 use Rattle.net.proofs.values.next_t.Statement.{statement}
 use Rattle.net.proofs.values.next_t.Tie as tie
 use Rattle.net.proofs.values.next_t.Reads as reads

@@ -2,7 +2,6 @@
 use mathlib.Core.Path.{_≡_, ap, _∙_}
 use Prim.Native.Nat.{ℕ, _+_, _-_, _≤_}
 use native.Mathlib.Omega.{arith}
-use borrow.Author.Needs.{needs}
 use Rattle.net.proofs.ValueLaws.{modulus-of, weightOf, weight-start, weight-more, value-is}
 use Rattle.net.proofs.values.t_at.Statement.{statement}
 use Rattle.net.proofs.values.t_at.Tie as tie

@@ -1,22 +1,25 @@
--- `points::words::write` meets its contract. Invariant: i words are laid, behind them all is as it was, and y is the state of word first + i.
--- Assumes nothing.
-use mathlib.Core.Path.{_≡_, sym, _∙_}
-use Prim.Native.Nat.{_-_, _<_, _^_}
+-- `points::words::write` meets its contract. Invariant: i words are laid, behind them all is as it was, y is the state of word first + i,
+-- and the tables are right. Assumes nothing.
+use mathlib.Core.Path.{refl, sym, _∙_}
+use Prim.Native.Nat.{_-_, _*_, _<_, _^_}
 use native.Mathlib.Omega.{arith}
-use lib.ListN.{length}
 use borrow.Author.Needs.{needs}
 use Rattle.order_laws.specs.Cycle.{degree-big}
-use Rattle.order_laws.specs.State.{state-power, state-lt}
-use Rattle.polynomial.specs.Modulus.{Modulus, modulus}
+use Rattle.order_laws.specs.State.{state-power}
+use Rattle.polynomial.specs.Modulus.{modulus}
+use Rattle.generator.specs.Lawful.{top-high}
+use Rattle.points.specs.Tables.{size}
+use Rattle.points.specs.Filling.{Filled, lower-unit, upper-unit, next-looked-up, next-small, word-looked-up}
 use Rattle.points.specs.Writing.{Writing, writing-start, writing-more, writing-done}
 use Rattle.points.proofs.words.write.Statement.{statement}
 use Rattle.points.proofs.words.write.Tie as tie
 
 abbrev Inv-loop : tie.InvT-loop
-Inv-loop m p q first count out₀ top y₀ i₀ out y i = Writing p q first count out₀ out y i × (y < 2 ^ m)
+Inv-loop m p q first count out₀ top y₀ next-low word-low next-high word-high i₀ out y i =
+    Writing p q first count out₀ out y i × (y < 2 ^ m) × Filled m p q 1 size next-low word-low × Filled m p q size size next-high word-high
 
 abbrev μ-loop : tie.MeasureT-loop
-μ-loop m p q first count out₀ top y₀ i₀ out y i = count - i
+μ-loop m p q first count out₀ top y₀ next-low word-low next-high word-high i₀ out y i = count - i
 
 leading-term-requires : tie.Need-leading-term-requires Inv-loop μ-loop
 leading-term-requires c κs = search needs
@@ -26,43 +29,93 @@ pow-mod-requires c κs =
     let pre = c .before .before .pre in
     rw (c .leading-term .ensures) (modulus _ _ (omega (arith, pre .0 .low)) (pre .1 .0 .degree-p), pre .1 .0 .smaller)
 
+slice-aggregate-fill : tie.Need-slice-aggregate-fill Inv-loop μ-loop
+slice-aggregate-fill c = search needs
+
+slice-aggregate-fill-2 : tie.Need-slice-aggregate-fill-2 Inv-loop μ-loop
+slice-aggregate-fill-2 c = search needs
+
+fill-requires : tie.Need-fill-requires Inv-loop μ-loop
+fill-requires c κs =
+    let pre = c .before .before .before .before .before .pre in
+    (pre .0, (pre .1 .0, (lower-unit, (refl, refl))))
+
+slice-aggregate-fill-3 : tie.Need-slice-aggregate-fill-3 Inv-loop μ-loop
+slice-aggregate-fill-3 c = search needs
+
+slice-aggregate-fill-4 : tie.Need-slice-aggregate-fill-4 Inv-loop μ-loop
+slice-aggregate-fill-4 c = search needs
+
+fill-requires-2 : tie.Need-fill-requires-2 Inv-loop μ-loop
+fill-requires-2 c κs =
+    let pre = c .before .before .before .before .before .before .before .before .before .before .pre in
+    (pre .0, (pre .1 .0, (upper-unit, (refl, refl))))
+
 loop-holds : tie.Need-loop-holds Inv-loop μ-loop
 loop-holds c =
-    let pre = c .before .before .before .pre in
-    let big = degree-big _ _ (omega (arith, pre .0 .low)) (pre .1 .0 .degree-p) in
-    (writing-start _ _ _ _ _ _ (c .pow-mod .ensures .0 ∙ sym (state-power _ big _ _)), rw (c .before .leading-term .ensures) at (c .pow-mod .ensures .1))
+    let pre = c .before .before .before .before .before .before .before .before .before .before .before .before .before .pre in
+    let power = c .before .before .before .before .before .before .before .before .before .before .pow-mod .ensures in
+    let big = degree-big _ _ (omega (arith, pre .0 .low)) (pre .1 .0 .degree-p) in (
+      writing-start _ _ _ _ _ _ (power .0 ∙ sym (state-power _ big _ _)),
+      rw (c .before .before .before .before .before .before .before .before .before .before .before .leading-term .ensures) at (power .1),
+      c .before .before .before .before .before .before .before .fill .ensures,
+      c .before .before .fill2 .ensures,
+    )
 
-word-of-requires : tie.Need-word-of-requires Inv-loop μ-loop
-word-of-requires c κs =
-    let pre = c .before .before .before .before .before .pre in
-    (pre .0, (pre .1 .0 .degree-p, c .before .loop .inv .1))
+-- a state has sixteen digits
+state-small : (c : tie.In-loop Inv-loop μ-loop) → c .before .loop .y < size * size
+state-small c = omega (arith, c .before .loop .inv .1, top-high (c .before .before .before .before .before .before .before .before .before .before .before .before .before .before .before .pre .0))
+
+cast-low : tie.Need-cast-low Inv-loop μ-loop
+cast-low c = search needs
+
+cast-high : tie.Need-cast-high Inv-loop μ-loop
+cast-high c = search needs
 
 mul-out : tie.Need-mul-out Inv-loop μ-loop
-mul-out c = omega arith
+mul-out c = search needs
+
+array-read-out : tie.Need-array-read-out Inv-loop μ-loop
+array-read-out c = search needs
+
+mul-out-2 : tie.Need-mul-out-2 Inv-loop μ-loop
+mul-out-2 c = search needs
+
+array-read-out-2 : tie.Need-array-read-out-2 Inv-loop μ-loop
+array-read-out-2 c = omega (arith, state-small c)
+
+mul-out-3 : tie.Need-mul-out-3 Inv-loop μ-loop
+mul-out-3 c = search needs
 
 slice-write-out : tie.Need-slice-write-out Inv-loop μ-loop
-slice-write-out c = omega arith
+slice-write-out c = search needs
 
-mul-mod-requires : tie.Need-mul-mod-requires Inv-loop μ-loop
-mul-mod-requires c κs =
-    let pre = c .before .before .before .before .before .before .pre in
-    rw (c .before .before .before .before .leading-term .ensures)
-    (modulus _ _ (omega (arith, pre .0 .low)) (pre .1 .0 .degree-p), c .before .before .loop .inv .1)
+mul-y : tie.Need-mul-y Inv-loop μ-loop
+mul-y c = search needs
+
+array-read-y : tie.Need-array-read-y Inv-loop μ-loop
+array-read-y c = search needs
+
+mul-y-2 : tie.Need-mul-y-2 Inv-loop μ-loop
+mul-y-2 c = search needs
+
+array-read-y-2 : tie.Need-array-read-y-2 Inv-loop μ-loop
+array-read-y-2 c = omega (arith, state-small c)
 
 add-i : tie.Need-add-i Inv-loop μ-loop
-add-i c = omega arith
+add-i c = search needs
 
 loop-less : tie.Need-loop-less Inv-loop μ-loop
-loop-less c = omega arith
+loop-less c = search needs
 
 loop-again : tie.Need-loop-again Inv-loop μ-loop
 loop-again c =
-    let pre = c .before .before .before .before .before .before .before .pre in (
-      writing-more _ _ _ _ _ (pre .1 .1) _ _ _ _ _ (c .before .before .before .loop .inv .0) (c .before .before .loop-test .taken)
-          (c .before .word-of .ensures)
-          (c .mul-mod .ensures .0),
-      rw (c .before .before .before .before .before .leading-term .ensures) at (c .mul-mod .ensures .1),
-    )
+    let pre = c .before .before .before .before .before .before .before .before .before .before .before .before .before .before .before .pre in
+    let inv = c .before .loop .inv in
+    let next = next-looked-up _ _ _ (pre .1 .0 .degree-p) _ _ _ _ (inv .2) (inv .3) _ (inv .1) (state-small c) in
+    let small = next-small _ _ _ (pre .1 .0 .degree-p) _ _ _ _ (inv .2) (inv .3) _ (inv .1) (state-small c) in
+    let word = word-looked-up _ _ _ (pre .1 .0 .degree-p) _ _ _ _ (inv .2) (inv .3) _ (inv .1) (state-small c) in
+    (writing-more _ _ _ _ _ (pre .1 .1) _ _ _ _ _ (inv .0) (c .loop-test .taken) word next, small, inv .2, inv .3)
 
 same-length : tie.Need-same-length Inv-loop μ-loop
 same-length c = c .before .loop .inv .0 .kept
@@ -78,11 +131,25 @@ write-spec =
     μ-loop
     leading-term-requires
     pow-mod-requires
+    slice-aggregate-fill
+    slice-aggregate-fill-2
+    fill-requires
+    slice-aggregate-fill-3
+    slice-aggregate-fill-4
+    fill-requires-2
     loop-holds
-    word-of-requires
+    cast-low
+    cast-high
     mul-out
+    array-read-out
+    mul-out-2
+    array-read-out-2
+    mul-out-3
     slice-write-out
-    mul-mod-requires
+    mul-y
+    array-read-y
+    mul-y-2
+    array-read-y-2
     add-i
     loop-less
     loop-again

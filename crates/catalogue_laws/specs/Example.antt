@@ -1,0 +1,47 @@
+-- Document 01's catalogue of 41 bytes, computed: it is what the encoder makes of the ranked list of degree 3 and T = 4, it is well-formed,
+-- and a reader hands out its four rows and then the end. Assumes nothing.
+use mathlib.Core.Path.{_≡_, refl}
+use mathlib.Core.Bool.{true}
+use mathlib.Core.List.{List, [], _∷_}
+use Prim.Native.Nat.{ℕ}
+use Rattle.definitions.specs.Ranking.{ranked}
+use Rattle.definitions.specs.Catalogue.{catalogueForm, opening, lookupNumbers, lookupPart, readerTop, catalogueBytes}
+use Rattle.definitions.specs.declared.NextRow.{NextRow}
+use Rattle.definitions.specs.declared.NextRow.the-variants.{Found, End}
+use Rattle.definitions.specs.declared.Opening.the-variants.{Entries}
+use Rattle.definitions.specs.declared.Lookup.the-variants.{Body}
+use Rattle.catalogue_laws.specs.Reader.{handsOut}
+
+unfoldable pub printed : List ℕ
+printed =
+    1
+    ∷ 3 ∷ 4 ∷ 0 ∷ 4 ∷ 0 ∷ 0 ∷ 0 ∷ 9
+    ∷ 0 ∷ 3 ∷ 0 ∷ 4 ∷ 0 ∷ 2 ∷ 1 ∷ 1
+    ∷ 0 ∷ 3 ∷ 0 ∷ 7 ∷ 0 ∷ 5 ∷ 1 ∷ 1
+    ∷ 0 ∷ 5 ∷ 0 ∷ 5 ∷ 0 ∷ 3 ∷ 1 ∷ 1
+    ∷ 0 ∷ 5 ∷ 0 ∷ 7 ∷ 0 ∷ 4 ∷ 1 ∷ 1
+    ∷ []
+
+pub printed-form : catalogueForm printed ≡ true
+unfolding printed catalogueForm
+printed-form = refl
+
+pub printed-opens : opening printed ≡ Entries 1
+unfolding printed opening
+printed-opens = refl
+
+pub printed-numbers : lookupNumbers printed 3 ≡ Body 4 4
+unfolding printed lookupNumbers
+printed-numbers = refl
+
+-- p, q and the step, with t(3) and t(4).
+abbrev row : ℕ → ℕ → ℕ → NextRow
+row p q step = Found (record { p = p; q = q; step = step; t3 = 1; t4 = 1; t5 = 0; t6 = 0; t7 = 0; t8 = 0 })
+
+pub printed-rows : handsOut 5 3 (readerTop printed 3) (lookupPart printed 3) 0 ≡ row 11 4 2 ∷ row 11 7 5 ∷ row 13 5 3 ∷ row 13 7 4 ∷ End ∷ []
+unfolding printed handsOut readerTop lookupPart
+printed-rows = refl
+
+pub printed-bytes : catalogueBytes (record { degree = 3; top = 4; rows = ranked 3 4 } ∷ []) ≡ printed
+unfolding printed catalogueBytes ranked
+printed-bytes = refl
