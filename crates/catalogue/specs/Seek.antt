@@ -1,17 +1,16 @@
 -- Where a degree's entry is in a catalogue, or why a lookup is refused; the answers of a lookup are read off it.
 -- A lookup's answer is a function of where the entry is, refusals and all; an entry that is found is lawful. Assumes nothing.
-use mathlib.Core.Path.{_≡_, refl, sym, _∙_}
+use mathlib.Core.Path.{_≡_, refl}
 use mathlib.Core.Bool.{Bool, true, false, not}
 use mathlib.Core.List.{List, [], _∷_}
 use Prim.Native.Nat.{ℕ, _+_, _<_, _≤_}
 use native.Mathlib.Omega.{arith}
 use lib.Dec.{eqb}
 use lib.ListN.{length, take, drop}
-use borrow.Author.Tests.{not-false, eqb-false, eq-eqb, ne-eqb}
+use borrow.Author.Tests.{eqb-false, eq-eqb, ne-eqb}
 use Rattle.definitions.specs.Answers.{situation, unless}
 use Rattle.definitions.specs.Generator.{lawfulDegree}
 use Rattle.definitions.specs.Catalogue.{byteAt, contentsSize, entryAt, bodySize, catalogueForm, looking, entryOf, lookupNumbers, lookupPart, readerTop}
-use Rattle.definitions.specs.declared.Refusal.{Refusal}
 use Rattle.definitions.specs.declared.Refusal.the-variants.{WrongDegree, IllFormedCatalogue, DegreeMissing}
 use Rattle.definitions.specs.declared.Lookup.{Lookup}
 use Rattle.definitions.specs.declared.Lookup.the-variants.{Body, NoBody}

@@ -6,7 +6,6 @@ use mathlib.Core.List.{List, [], _∷_}
 use Prim.Native.Nat.{ℕ}
 use Rattle.definitions.specs.Ranking.{ranked}
 use Rattle.definitions.specs.Catalogue.{catalogueForm, opening, lookupNumbers, lookupPart, readerTop, catalogueBytes}
-use Rattle.definitions.specs.declared.Row.{Row}
 use Rattle.definitions.specs.declared.NextRow.{NextRow}
 use Rattle.definitions.specs.declared.NextRow.the-variants.{Found, End}
 use Rattle.definitions.specs.declared.Opening.the-variants.{Entries}

@@ -6,3 +6,6 @@ pub mod Outcome
 pub mod Reader
 pub mod Example
 pub mod Bytes
+pub mod Written
+pub mod Files
+pub mod RoundTrip

@@ -1,6 +1,6 @@
 -- Lookups: what a function of a call's answer is, when opening refuses, and where the entry of a degree is.
 -- The entry by the laws of the first number that passes. Assumes nothing.
-use mathlib.Core.Path.{_≡_, refl, sym, _∙_}
+use mathlib.Core.Path.{_≡_, refl}
 use mathlib.Core.Bool.{Bool, true, false}
 use mathlib.Core.List.{List, [], _∷_}
 use Prim.Native.Nat.{ℕ, zero, suc, _+_, _-_, _<_, _≤_}

@@ -1,14 +1,14 @@
 -- The two outcomes of a lookup: an entry that is lawful and of the degree asked, with its numbers and its part; or a refusal, with nothing.
 -- By the three situations of a lookup, each told apart. Assumes nothing.
-use mathlib.Core.Path.{_≡_, refl, sym, _∙_}
+use mathlib.Core.Path.{_≡_, refl}
 use mathlib.Core.Logic.{_⊎_, inl, inr}
 use mathlib.Core.Bool.{Bool, true, false}
 use mathlib.Core.List.{List, []}
-use Prim.Native.Nat.{ℕ, _<_, _≤_, _*_}
+use Prim.Native.Nat.{ℕ, _<_}
 use native.Mathlib.Omega.{arith}
 use lib.Dec.{eqb}
 use lib.ListN.{length, take, drop, length-take, length-drop}
-use borrow.Author.Tests.{eqb-false}
+use borrow.Author.Tests.{eqb-false, ne-eqb}
 use Rattle.definitions.specs.Answers.{unless}
 use Rattle.definitions.specs.Generator.{lawfulDegree}
 use Rattle.definitions.specs.Catalogue.{Entry, byteAt, entryAt, bodySize, catalogueForm, looking, entryOf, lookupNumbers, lookupPart, readerTop}
@@ -37,6 +37,20 @@ pub record Refused (s : List ℕ) (m : ℕ) : Type 0 where
   pub part-is : lookupPart s m ≡ []
   pub top-is : readerTop s m ≡ 0
 
+pub lookup-given : (s : List ℕ) (m : ℕ) → lawfulDegree m ≡ true → catalogueForm s ≡ true → entryOf s m < byteAt s 0 → Given s m
+unfolding lookupNumbers lookupPart readerTop looking unless
+lookup-given s m d f l =
+    let v = ne-eqb (entryOf s m) (byteAt s 0) (λ e. omega arith) in
+    record {
+      form = f;
+      lawful-degree = d;
+      lawful = entry-lawful s f (entryOf s m) l;
+      degree-is = entry-of-degree s m l;
+      numbers-are = rw (d, f, v);
+      part-is = rw (d, f, v);
+      top-is = rw (d, f, v);
+    }
+
 pub lookup-outcome : (s : List ℕ) (m : ℕ) → Given s m ⊎ Refused s m
 unfolding lookupNumbers lookupPart readerTop looking unless
 lookup-outcome s m = go (lawfulDegree m) refl (catalogueForm s) refl (eqb (entryOf s m) (byteAt s 0)) refl
@@ -47,16 +61,7 @@ lookup-outcome s m = go (lawfulDegree m) refl (catalogueForm s) refl (eqb (entry
     go true d true u true v = inr (record { refusal = DegreeMissing; numbers-are = rw (d, u, v); part-is = rw (d, u, v); top-is = rw (d, u, v) })
     go true d true u false v =
         let n = eqb-false (entryOf s m) (byteAt s 0) v in
-        let l : entryOf s m < byteAt s 0 = omega (arith, entry-of-most s m) in
-        inl (record {
-          form = u;
-          lawful-degree = d;
-          lawful = entry-lawful s u (entryOf s m) l;
-          degree-is = entry-of-degree s m l;
-          numbers-are = rw (d, u, v);
-          part-is = rw (d, u, v);
-          top-is = rw (d, u, v);
-        })
+        inl (lookup-given s m d u (omega (arith, entry-of-most s m)))
 
 -- The part has as many rows as the entry says.
 pub part-length : (s : List ℕ) (m : ℕ) → Given s m → length (lookupPart s m) ≡ bodySize (entryFor s m)

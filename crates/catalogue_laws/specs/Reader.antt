@@ -8,7 +8,7 @@ use mathlib.Core.List.{List, [], _∷_, _++_, map}
 use Prim.Native.Nat.{ℕ, zero, suc, _+_, _*_, _%_, _<_, _≤_}
 use native.Mathlib.Nat.{zero-add, suc-add, suc-mul, zero-mul, mul-le-mul-right, mul-mod-left}
 use native.Mathlib.Omega.{arith}
-use lib.Dec.{leb, eqb}
+use lib.Dec.{eqb}
 use lib.ListN.{length, replicate}
 use borrow.Author.Tests.{le-leb, lt-leb, eq-eqb}
 use Rattle.definitions.specs.Number.{numbers}
@@ -17,8 +17,7 @@ use Rattle.definitions.specs.Ranking.{lawfulTop}
 use Rattle.definitions.specs.Catalogue.{rowSize, atRow, rowAt, nextRow, nextPlace, lookupNumbers, lookupPart, readerTop}
 use Rattle.definitions.specs.declared.NextRow.{NextRow}
 use Rattle.definitions.specs.declared.NextRow.the-variants.{Found, End}
-use Rattle.definitions.specs.declared.Lookup.the-variants.{Body, NoBody}
-use Rattle.catalogue_laws.specs.Form.{LawfulEntry}
+use Rattle.definitions.specs.declared.Lookup.the-variants.{Body}
 use Rattle.catalogue_laws.specs.Reading.{next-end, next-found, next-place-end, next-place-row, at-row-degree, at-row-top}
 use Rattle.catalogue_laws.specs.Outcome.{Given, Refused, lookup-outcome, part-length, entryFor}
 

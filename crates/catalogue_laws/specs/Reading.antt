@@ -1,12 +1,12 @@
 -- Reading a body: when a place is the start of a whole row, as a walk tests it, and what that says.
 -- Each test of `atRow` by its definition; the first that fails decides. Assumes nothing.
 use mathlib.Core.Path.{_≡_, sym, _∙_}
-use mathlib.Core.Bool.{Bool, true, false, and-eq-true-iff}
+use mathlib.Core.Bool.{true, false, and-eq-true-iff}
 use mathlib.Core.List.{List}
 use Prim.Native.Nat.{ℕ, _+_, _-_, _%_, _<_, _≤_}
 use native.Mathlib.Omega.{arith}
 use native.Mathlib.Decide.{decLe}
-use lib.Dec.{leb, eqb}
+use lib.Dec.{leb}
 use lib.ListN.{length}
 use borrow.Author.Tests.{leb-true, eqb-true, lt-leb, le-leb, eq-eqb, ne-eqb}
 use Rattle.definitions.specs.Generator.{lawfulDegree}

@@ -2,12 +2,12 @@
 -- Assumes nothing.
 use mathlib.Core.Path.{_≡_, sym, ap, _∙_}
 use mathlib.Core.Bool.{true, false≢true}
-use Prim.Native.Nat.{ℕ, suc, _+_, _-_, _*_, _^_, _≤_, _<_}
+use Prim.Native.Nat.{ℕ, _+_, _-_, _*_, _^_, _≤_, _<_}
 use native.Mathlib.Numerals.{add-one}
 use native.Mathlib.Omega.{arith}
 use native.Mathlib.Decide.{decLe}
 use borrow.Author.Tests.{eq-eqb}
-use Rattle.definitions.specs.Polynomial.{degree, rem}
+use Rattle.definitions.specs.Polynomial.{rem}
 use Rattle.definitions.specs.Generator.{period, primitive, step}
 use Rattle.number_laws.specs.First.{first-before}
 use Rattle.polynomial_laws.specs.Degree.{degree-unique}

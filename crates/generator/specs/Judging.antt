@@ -1,15 +1,13 @@
 -- Judging a pair of a lawful degree, and its outcome at each situation. Assumes nothing.
 use mathlib.Core.Path.{_≡_, refl, sym, _∙_}
-use mathlib.Core.Bool.{Bool, true, false, not}
-use mathlib.Core.List.{List, [], _∷_, _++_}
+use mathlib.Core.Bool.{Bool, true, false}
 use Prim.Native.Nat.{ℕ}
 use native.Mathlib.Omega.{arith}
 use lib.Dec.{eqb}
-use Rattle.definitions.specs.Answers.{Situation, situation, unless}
+use Rattle.definitions.specs.Answers.{unless}
 use Rattle.definitions.specs.Calls.{pairSituations, judging, judgement}
 use Rattle.definitions.specs.Number.{gcd}
 use Rattle.definitions.specs.Generator.{lawfulDegree, wellFormed, primitive, linearQuotients, coprimeStep, step, period}
-use Rattle.definitions.specs.declared.Refusal.{Refusal}
 use Rattle.definitions.specs.declared.Refusal.the-variants.{WrongDegree, IllFormedPair, NotPrimitive, QuotientNotLinear, StepNotCoprime}
 use Rattle.definitions.specs.declared.Judgement.{Judgement}
 use Rattle.definitions.specs.declared.Judgement.the-variants.{Accepted, Rejected}

@@ -5,12 +5,10 @@ use mathlib.Core.Bool.{Bool, true, false}
 use mathlib.Core.List.{List, [], _∷_, _++_}
 use Prim.Native.Nat.{ℕ}
 use native.Mathlib.Omega.{arith}
-use Rattle.definitions.specs.Answers.{Situation, situation, unless}
-use Rattle.definitions.specs.Calls.{pairSituations, judging}
-use Rattle.definitions.specs.Generator.{lawfulDegree, step}
+use Rattle.definitions.specs.Answers.{Situation, unless}
+use Rattle.definitions.specs.Calls.{pairSituations}
+use Rattle.definitions.specs.Generator.{step}
 use Rattle.definitions.specs.declared.Refusal.{Refusal}
-use Rattle.definitions.specs.declared.Refusal.the-variants.{WrongDegree}
-use Rattle.definitions.specs.declared.Judgement.{Judgement}
 use Rattle.definitions.specs.declared.Judgement.the-variants.{Accepted, Rejected}
 use Rattle.generator.specs.Judging.{pairJudgement}
 

@@ -5,3 +5,4 @@ pub mod Rows
 pub mod Lines
 pub mod Line
 pub mod Words
+pub mod Printed

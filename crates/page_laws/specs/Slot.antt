@@ -108,7 +108,7 @@ module _ {X : Type 0} (key : X → List ℕ) where
       (λ (t : before (key r) (key x) ≡ false). rw (slot-later r x l t) (omega (arith, slot-down r d l i (omega arith) e)))
       (cases (before (key r) (key x)))
 
-  getD-member : (d : X) (l : List X) (i : ℕ) → i < length l → List·Memᴰ (getD l i d) l
+  pub getD-member : (d : X) (l : List X) (i : ℕ) → i < length l → List·Memᴰ (getD l i d) l
   getD-member d [] i h = absurd (omega arith)
   getD-member d (x ∷ l) zero h = List·Memᴰ·head refl
   getD-member d (x ∷ l) (suc i) h = List·Memᴰ·tail (getD-member d l i (omega arith))

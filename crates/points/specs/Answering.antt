@@ -1,15 +1,15 @@
 -- What points answers and what it leaves in the slice, by its situations in their order. Assumes nothing.
 use mathlib.Core.Path.{_≡_, refl, sym, ap, _∙_}
-use mathlib.Core.Bool.{Bool, true, false, not}
+use mathlib.Core.Bool.{true, false, not}
 use mathlib.Core.List.{List, [], _∷_, _++_}
 use Prim.Native.Nat.{ℕ, _+_, _-_, _^_, _<_, _≤_, min}
 use native.Mathlib.Omega.{arith}
 use lib.Dec.{ltb}
 use lib.ListN.{length, drop}
 use borrow.Author.Tests.{lt-ltb, le-ltb}
-use Rattle.definitions.specs.Answers.{Situation, situation, unless}
+use Rattle.definitions.specs.Answers.{situation, unless}
 use Rattle.definitions.specs.Calls.{pairSituations, judging, pointing, wordCount, pointsAnswer, pointsSlice}
-use Rattle.definitions.specs.Generator.{lawfulDegree, wellFormed, period}
+use Rattle.definitions.specs.Generator.{lawfulDegree, period}
 use Rattle.definitions.specs.Points.{words}
 use Rattle.definitions.specs.declared.Refusal.{Refusal}
 use Rattle.definitions.specs.declared.Refusal.the-variants.{WrongDegree, BeyondPeriod}

@@ -9,7 +9,7 @@ use lib.ListN.{length, getD, set, length-set}
 use lib.Seq.{getD-set-same}
 use lib.Bits.{bitXor}
 use lib.Pow.{pow-mono, pow-pos}
-use Rattle.definitions.specs.Polynomial.{rem, prod}
+use Rattle.definitions.specs.Polynomial.{prod}
 use Rattle.definitions.specs.Points.{leading, wordDigits}
 use Rattle.polynomial_laws.specs.Degree.{HasDegree, positive, degree-unique}
 use Rattle.polynomial_laws.specs.Division.{rem-lt}

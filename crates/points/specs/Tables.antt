@@ -1,16 +1,16 @@
 -- Tables of an additive function of a state's digits: entry j is its value at j times a unit, and the value at a state is the sum of two entries.
 -- A table doubles: the entry at 2^k + i is the sum of those at 2^k and i, whose digits do not meet. Assumes nothing.
-use mathlib.Core.Path.{_≡_, refl, sym, ap, ap₂, _∙_}
+use mathlib.Core.Path.{_≡_, sym, ap, ap₂, _∙_}
 use mathlib.Core.List.{List}
 use Prim.Native.Nat.{ℕ, zero, suc, _+_, _-_, _*_, _/_, _%_, _^_, _≤_, _<_}
 use native.Mathlib.Nat.{mul-one, one-mul, add-mul, mul-comm, zero-mul, mul-lt-mul-of-pos-right, mul-le-mul-right, div-add-mod', mod-lt}
 use native.Mathlib.Omega.{arith}
 use native.Mathlib.Decide.{decLe}
-use lib.ListN.{length, getD}
+use lib.ListN.{getD}
 use lib.Bits.{bitXor, xor-shifted}
 use lib.Pow.{pow-pos, pow-add}
-use Rattle.definitions.specs.Polynomial.{_⊕_, rem, quot, prod}
-use Rattle.definitions.specs.Points.{leading, wordDigits}
+use Rattle.definitions.specs.Polynomial.{_⊕_, rem, prod}
+use Rattle.definitions.specs.Points.{leading}
 use Rattle.polynomial_laws.specs.Sum.{⊕-def, ⊕-comm}
 use Rattle.polynomial_laws.specs.Division.{rem-⊕, quot-⊕, rem-zero, quot-zero}
 use Rattle.polynomial_laws.specs.Product.{prod-⊕, prod-zero}

@@ -1,2 +1,48 @@
 // Pages of the ranked list.
-pub mod rows;
+ghost use mathlib.Core.Path.{_≡_};
+ghost use Rattle.definitions.specs.Calls.{pageAnswer, pageSlice};
+ghost use Rattle.definitions.specs.Ranking.{lawfulTop};
+use definitions::PageAnswer;
+use definitions::PageRequest;
+use definitions::Position;
+use definitions::Refusal;
+use generator::degrees;
+
+pub mod rows; // rows kept in order at the front of a slice
+pub mod search; // what a search is made with, and what it has counted
+pub mod rank; // where a pair's key stands
+pub mod offer; // what becomes of a pair that is met
+pub mod walk; // the walk down the tree
+pub mod serve; // a page of a lawful degree and top dimension
+
+pub const LEAST_TOP: u32 = 3;
+
+pub const LARGEST_TOP: u32 = 8;
+
+// Whether the top dimension is one that the library covers.
+fn is_lawful_top(top: u32) -> bool
+    ensures { λ r. ⌜ r ≡ lawfulTop top ⌝ }
+{
+    LEAST_TOP <= top && top <= LARGEST_TOP
+}
+
+// The rows of the ranked list above the position, as many as fit `out`, from its front: how many, and whether a further row exists; or document
+// 01's refusal 1 or 2, 3 to 6 for a position after a pair, or 7. Every number behind the rows stays, and a refusal writes nothing.
+pub fn page(request: PageRequest, out: &mut [u32]) -> PageAnswer
+    ensures answer { λ a. ⌜ a ≡ pageAnswer request (now (out .entry)) ⌝ }
+    ensures slice { λ a. ⌜ now (out .exit) ≡ pageSlice request (now (out .entry)) ⌝ }
+{
+    let degree = request.degree;
+    let top = request.top;
+    let position = request.position;
+    if !degrees::is_lawful(degree) {
+        return PageAnswer::NoPage(Refusal::WrongDegree);
+    }
+    if !is_lawful_top(top) {
+        return PageAnswer::NoPage(Refusal::WrongDimension);
+    }
+    match position {
+        Position::Start => serve::first_page(degree, top, out),
+        Position::After(p, q) => serve::next_page(degree, top, p, q, out),
+    }
+}

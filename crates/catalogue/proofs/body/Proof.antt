@@ -1,10 +1,10 @@
 -- `catalogue::body` meets its contract: the part is a function of where the entry is, and a lawful entry's body is within the file.
 -- Assumes nothing.
-use mathlib.Core.Path.{_≡_, refl, sym, ap, ap₂, _∙_}
+use mathlib.Core.Path.{_≡_, sym, ap, ap₂, _∙_}
 use Prim.Native.Nat.{ℕ, _+_, _-_}
 use native.Mathlib.Omega.{arith}
 use lib.ListN.{take, drop}
-use Rattle.catalogue.specs.Seek.{partOf, lookup-part, Located, seek-located}
+use Rattle.catalogue.specs.Seek.{partOf, lookup-part, seek-located}
 use borrow.Author.Needs.{needs}
 use Rattle.catalogue.proofs.body.Statement.{statement}
 use Rattle.catalogue.proofs.body.Tie as tie

@@ -1,8 +1,7 @@
 -- `catalogue::place_behind` meets its contract. Assumes nothing.
-use mathlib.Core.Path.{_≡_, refl, sym, ap, _∙_}
+use mathlib.Core.Path.{sym, _∙_}
 use native.Mathlib.Omega.{arith}
 use borrow.Author.Tests.{not-true, not-false}
-use native.Mathlib.Nat.{add-assoc}
 use Rattle.catalogue_laws.specs.Reading.{at-row-out, next-place-end, next-place-row}
 use borrow.Author.Needs.{needs}
 use Rattle.catalogue.proofs.place_behind.Statement.{statement}

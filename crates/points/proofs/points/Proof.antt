@@ -2,14 +2,13 @@
 -- Assumes nothing.
 use mathlib.Core.Path.{_≡_, sym, _∙_}
 use mathlib.Core.Bool.{true}
-use Prim.Native.Nat.{_^_, _-_, _≤_}
 use native.Mathlib.Omega.{arith}
 use denote.Ref.{now}
 use borrow.Author.Needs.{needs}
 use borrow.Author.Tests.{not-true, not-false}
 use Rattle.definitions.specs.Generator.{lawfulDegree}
 use Rattle.fraction_laws.specs.WellFormed.{wellFormed-is}
-use Rattle.generator.specs.Lawful.{Lawful, lawful-is, top-low, top-high}
+use Rattle.generator.specs.Lawful.{Lawful, lawful-is, top-low}
 use Rattle.generator.specs.Judging.{accepted-well-formed}
 use Rattle.points.specs.Answering.{answered-unlawful, answered-rejected, answered-beyond, answered-written, words-left}
 use Rattle.points.proofs.points.Statement.{statement}

@@ -1,7 +1,6 @@
 -- `catalogue::form::catalogue_form` meets its contract: each test that fails decides. Assumes nothing.
-use mathlib.Core.Path.{_≡_, refl, sym, ap, _∙_}
+use mathlib.Core.Path.{sym, _∙_}
 use native.Mathlib.Omega.{arith}
-use Rattle.definitions.specs.Catalogue.{entriesForm}
 use Rattle.catalogue_laws.specs.Form.{catalogue-empty, catalogue-many, catalogue-short, catalogue-entries}
 use borrow.Author.Needs.{needs}
 use Rattle.catalogue.proofs.form.catalogue_form.Statement.{statement}

@@ -1,7 +1,7 @@
 -- `catalogue::form::entries_form` meets its contract. The invariant: the entries before i pass, so the `left` from i on decide, behind the
 -- degree `last` and from the place `at` on, which is within the file. Assumes nothing.
-use mathlib.Core.Path.{_≡_, refl, sym, ap, _∙_}
-use Prim.Native.Nat.{ℕ, _+_, _-_, _*_, _≤_}
+use mathlib.Core.Path.{_≡_, refl, sym, _∙_}
+use Prim.Native.Nat.{_+_, _-_, _*_, _≤_}
 use mathlib.Core.Bool.{true}
 use native.Mathlib.Omega.{arith}
 use lib.ListN.{length}

@@ -1,16 +1,15 @@
 -- `catalogue::form::entry_form` meets its contract: each test that fails decides. Below, what the tests passed so far say of the entry.
 -- Assumes nothing.
 use mathlib.Core.Path.{_≡_, sym, ap, ap₂, _∙_}
-use mathlib.Core.Bool.{Bool, true, false}
+use mathlib.Core.Bool.{true}
 use Prim.Native.Nat.{ℕ, _+_, _*_, _<_, _≤_}
 use native.Mathlib.Omega.{arith}
 use lib.ListN.{length}
 use borrow.Author.Tests.{not-true, not-false}
 use borrow.Author.Needs.{needs}
-use Rattle.definitions.specs.Number.{every}
 use Rattle.definitions.specs.Generator.{lawfulDegree}
 use Rattle.definitions.specs.Ranking.{lawfulTop}
-use Rattle.definitions.specs.Catalogue.{Entry, entryAt, bodySize, rowForm}
+use Rattle.definitions.specs.Catalogue.{Entry, entryAt, bodySize}
 use Rattle.catalogue_laws.specs.Form.{size-fits, one-shl, degree-bounds, top-bounds, entry-degree, entry-last, entry-top, entry-offset, entry-size, entry-rows}
 use Rattle.catalogue.proofs.form.entry_form.Statement.{statement}
 use Rattle.catalogue.proofs.form.entry_form.Tie as tie

@@ -1,5 +1,4 @@
 -- `catalogue::rows::decode` meets its contract, field by field. Assumes nothing.
-use mathlib.Core.Path.{_≡_}
 use native.Mathlib.Omega.{arith}
 use lib.Pow.{pow-mono}
 use Rattle.definitions.specs.Catalogue.{rowAt}

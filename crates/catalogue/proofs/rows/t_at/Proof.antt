@@ -1,5 +1,5 @@
 -- `catalogue::rows::t_at` meets its contract. Assumes nothing.
-use mathlib.Core.Path.{_≡_, refl, sym, ap, _∙_}
+use mathlib.Core.Path.{sym, _∙_}
 use native.Mathlib.Omega.{arith}
 use Rattle.catalogue_laws.specs.Reading.{t-above, t-within}
 use borrow.Author.Needs.{needs}

@@ -1,10 +1,10 @@
 -- `catalogue::seek::entry_of` meets its contract. The invariant: no entry before i has the degree, so the search goes on with the `left` from i on.
 -- Assumes nothing.
-use mathlib.Core.Path.{_≡_, refl, sym, ap, _∙_}
-use Prim.Native.Nat.{ℕ, _+_, _≤_}
+use mathlib.Core.Path.{_≡_, refl, sym, _∙_}
+use Prim.Native.Nat.{_+_}
 use native.Mathlib.Omega.{arith}
 use Rattle.definitions.specs.Number.{first}
-use Rattle.definitions.specs.Catalogue.{byteAt, entryAt}
+use Rattle.definitions.specs.Catalogue.{byteAt}
 use Rattle.catalogue_laws.specs.Lookup.{hasDegree, entry-of, look-end, look-stop, look-on}
 use borrow.Author.Needs.{needs}
 use Rattle.catalogue.proofs.seek.entry_of.Statement.{statement}

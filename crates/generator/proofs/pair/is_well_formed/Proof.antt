@@ -1,15 +1,13 @@
 -- `generator::pair::is_well_formed` meets its contract: each test that fails contradicts one part of the definition, and the last decides.
 -- Assumes nothing.
-use mathlib.Core.Path.{_≡_, sym}
-use mathlib.Core.Bool.{true, false}
-use Prim.Native.Nat.{_^_, _<_}
+use mathlib.Core.Path.{sym}
 use native.Mathlib.Omega.{arith}
 use lib.Dec.{ltb}
 use borrow.Author.Needs.{needs}
 use borrow.Author.Tests.{lt-ltb, ltb-true}
 use Rattle.definitions.specs.Generator.{wellFormed}
 use Rattle.number_laws.specs.Truth.{truth-false, truth-equal}
-use Rattle.fraction_laws.specs.WellFormed.{WellFormed, wellFormed-is}
+use Rattle.fraction_laws.specs.WellFormed.{wellFormed-is}
 use Rattle.generator.specs.Lawful.{top-high}
 use Rattle.generator.proofs.pair.is_well_formed.Statement.{statement}
 use Rattle.generator.proofs.pair.is_well_formed.Tie as tie

@@ -1,13 +1,13 @@
 -- `generator::pair::judge_pair` meets its contract: each test says whether its situation applies, and those before it do not.
 -- Assumes nothing.
 use mathlib.Core.Path.{_≡_, sym, ap, ap₂, _∙_}
-use mathlib.Core.Bool.{true, false}
-use Prim.Native.Nat.{ℕ, _^_, _-_}
+use mathlib.Core.Bool.{true}
+use Prim.Native.Nat.{ℕ, _-_}
 use native.Mathlib.Omega.{arith}
 use borrow.Author.Needs.{needs}
 use borrow.Author.Tests.{not-true, not-false, eq-eqb, ne-eqb}
 use Rattle.definitions.specs.Number.{gcd}
-use Rattle.definitions.specs.Generator.{wellFormed, primitive, linearQuotients, coprimeStep, step, period}
+use Rattle.definitions.specs.Generator.{wellFormed, primitive, linearQuotients, step, period}
 use Rattle.fraction_laws.specs.WellFormed.{WellFormed, wellFormed-is}
 use Rattle.polynomial.specs.Modulus.{modulus}
 use Rattle.generator.specs.Lawful.{top-low}

@@ -6,7 +6,6 @@ use Prim.Native.Nat.{ℕ, _-_, _/_, _^_, _≤_}
 use native.Mathlib.Omega.{arith}
 use borrow.Author.Needs.{needs}
 use borrow.Author.Tests.{eq-eqb, ne-eqb}
-use Rattle.definitions.specs.Polynomial.{rem}
 use Rattle.definitions.specs.Generator.{coprimeStep, primitive, period}
 use Rattle.definitions.specs.Points.{state}
 use Rattle.fraction_laws.specs.WellFormed.{WellFormed}

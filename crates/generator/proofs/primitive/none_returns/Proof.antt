@@ -1,14 +1,14 @@
 -- `generator::primitive::none_returns` meets its contract. Invariant: what the test says of the divisors from place i on, it says of all.
 -- Assumes nothing.
 use mathlib.Core.Path.{_≡_, refl, sym, _∙_}
-use Prim.Native.Nat.{ℕ, _-_, _/_, _^_, _≤_}
+use Prim.Native.Nat.{_-_, _/_, _^_, _≤_}
 use native.Mathlib.Omega.{arith}
 use borrow.Author.Needs.{needs}
 use borrow.Author.Tests.{eq-eqb, ne-eqb}
 use Rattle.definitions.specs.Polynomial.{rem}
 use Rattle.order_laws.specs.Primitive.{returns}
 use Rattle.polynomial.specs.Modulus.{modulus}
-use Rattle.generator.specs.Lawful.{Lawful, top-low}
+use Rattle.generator.specs.Lawful.{top-low}
 use Rattle.generator.specs.DivisorTable.{places}
 use Rattle.generator.specs.DivisorLoop.{LeftFrom, left-none, left-end, left-hit, left-more}
 use Rattle.generator.proofs.primitive.none_returns.Statement.{statement}

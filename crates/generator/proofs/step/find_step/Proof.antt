@@ -1,10 +1,9 @@
 -- `generator::step::find_step` meets its contract. Invariant: the power at hand is x^e, and e has not passed the step, which is the measure too.
 -- The step's own power is q, so the loop breaks there at the latest. Assumes nothing.
-use mathlib.Core.Path.{_≡_}
 use Prim.Native.Nat.{_-_, _<_}
 use native.Mathlib.Omega.{arith}
 use borrow.Author.Needs.{needs}
-use Rattle.definitions.specs.Generator.{step, period}
+use Rattle.definitions.specs.Generator.{step}
 use Rattle.order_laws.specs.Step.{step-to}
 use Rattle.polynomial.specs.Modulus.{modulus}
 use Rattle.generator.specs.Lawful.{top-low, top-high}

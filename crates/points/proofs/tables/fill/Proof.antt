@@ -1,14 +1,14 @@
 -- `points::tables::fill` meets its contract. Invariant: n is a power of two, and the first n entries of both tables are right.
 -- A unit multiple that is no residue ends it: none of the entries behind is asked for. Assumes nothing.
-use mathlib.Core.Path.{_≡_, refl, sym, _∙_}
-use Prim.Native.Nat.{ℕ, _-_, _*_, _<_, _≤_, _^_}
+use mathlib.Core.Path.{sym, _∙_}
+use Prim.Native.Nat.{ℕ, _-_, _*_, _<_, _≤_}
 use native.Mathlib.Nat.{mul-le-mul-right}
 use native.Mathlib.Omega.{arith}
 use denote.Ref.{now}
 use borrow.Author.Needs.{needs}
 use Rattle.polynomial.specs.Modulus.{modulus}
 use Rattle.points.specs.Tables.{size}
-use Rattle.points.specs.Filling.{Unit, Filling, filling-start, filling-more, filling-beyond, filling-done, filling-room, filling-positive}
+use Rattle.points.specs.Filling.{Filling, filling-start, filling-more, filling-beyond, filling-done, filling-room, filling-positive}
 use Rattle.points.proofs.tables.fill.Statement.{statement}
 use Rattle.points.proofs.tables.fill.Tie as tie
 
