@@ -1,10 +1,10 @@
 // The public calls for C, as include/fenyurka.h declares them: a refusal's number is returned, 0 where there is none, and answers go
 // through pointers. A refusal writes nothing.
 ghost use mathlib.Core.Path.{_≡_};
-ghost use Rattle.definitions.specs.Answers.{judgementValues, uniformityValues, pointsValues, openingValues, lookupValues};
-ghost use Rattle.definitions.specs.Calls.{judgement, uniformity, pointsAnswer, pointsSlice};
+ghost use Rattle.definitions.specs.Answers.{judgementValues, uniformityValues, pageValues, pointsValues, openingValues, lookupValues};
+ghost use Rattle.definitions.specs.Calls.{judgement, uniformity, pageAnswer, pageSlice, pointsAnswer, pointsSlice};
 ghost use Rattle.definitions.specs.Catalogue.{opening, lookupNumbers, nextRow, nextPlace};
-ghost use Rattle.interface.specs.Boundary.{returned, stored};
+ghost use Rattle.interface.specs.Boundary.{returned, stored, fromStart, afterPair};
 ghost use Rattle.interface.specs.Located.{bodyOffset};
 ghost use Rattle.interface.specs.Rows.{rowStatus, rowSlice, rowNext};
 use catalogue::form;
@@ -13,10 +13,13 @@ use catalogue::seek::Sought;
 use definitions::Judgement;
 use definitions::NextRow;
 use definitions::Opening;
+use definitions::PageRequest;
 use definitions::PointsAnswer;
+use definitions::Position;
 use definitions::Refusal;
 use definitions::Uniformity;
 
+pub mod pages; // a page from any position
 pub mod numbers; // a row's numbers over the front of a slice
 
 // What reading a row returns at the end of a body.
@@ -50,6 +53,62 @@ pub extern "C" fn fenyurka_t_value(degree: u32, p: u32, q: u32, dimension: u32, 
         }
         Uniformity::Undefined(refusal) => answers::refusal_number(refusal),
     }
+}
+
+// The first rows of the ranked list: how many, and whether a further row exists.
+#[no_mangle]
+pub extern "C" fn fenyurka_first_page(
+    degree: u32,
+    top: u32,
+    rows: &mut [u32],
+    count: &mut usize,
+    more: &mut u32,
+) -> u32
+    ensures { λ r. ⌜ r ≡ returned (pageValues (pageAnswer (fromStart degree top) (now (rows .entry)))) ⌝ }
+    ensures { λ r. ⌜ now (rows .exit) ≡ pageSlice (fromStart degree top) (now (rows .entry)) ⌝ }
+    ensures { λ r. ⌜ now (count .exit) ≡ stored (pageValues (pageAnswer (fromStart degree top) (now (rows .entry)))) 1 (now (count .entry)) ⌝ }
+    ensures { λ r. ⌜ now (more .exit) ≡ stored (pageValues (pageAnswer (fromStart degree top) (now (rows .entry)))) 2 (now (more .entry)) ⌝ }
+{
+    let position = Position::Start;
+    pages::page(
+        PageRequest {
+            degree,
+            top,
+            position,
+        },
+        rows,
+        count,
+        more,
+    )
+}
+
+// The same for the rows after a pair.
+#[no_mangle]
+pub extern "C" fn fenyurka_page_after(
+    degree: u32,
+    top: u32,
+    p: u32,
+    q: u32,
+    rows: &mut [u32],
+    count: &mut usize,
+    more: &mut u32,
+) -> u32
+    ensures { λ r. ⌜ r ≡ returned (pageValues (pageAnswer (afterPair degree top p q) (now (rows .entry)))) ⌝ }
+    ensures { λ r. ⌜ now (rows .exit) ≡ pageSlice (afterPair degree top p q) (now (rows .entry)) ⌝ }
+    ensures { λ r. ⌜ now (count .exit) ≡ stored (pageValues (pageAnswer (afterPair degree top p q) (now (rows .entry)))) 1 (now (count .entry)) ⌝ }
+    ensures { λ r. ⌜ now (more .exit) ≡ stored (pageValues (pageAnswer (afterPair degree top p q) (now (rows .entry)))) 2 (now (more .entry)) ⌝ }
+{
+    let position = Position::After(p, q);
+    pages::page(
+        PageRequest {
+            degree,
+            top,
+            position,
+        },
+        rows,
+        count,
+        more,
+    )
 }
 
 // Words of a pair's period, and how many were written.
