@@ -3,6 +3,7 @@ use definitions::Judgement;
 use definitions::Uniformity;
 
 mod damaged; // catalogues whole and damaged
+mod output; // words of the full period
 mod print; // what is printed with
 mod reading; // the printed catalogue, row by row
 
@@ -54,6 +55,7 @@ fn t_values() {
 fn main() {
     judgings();
     t_values();
+    output::all();
     reading::all();
     damaged::all();
 }

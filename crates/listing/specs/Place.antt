@@ -1,7 +1,7 @@
 -- A text put at a place of a buffer: where it fits behind the place, it takes the place of what stood there; where it does not, nothing is written.
 -- Texts put one behind the other are their concatenation put once: `take` and `drop` meet at the seam.
 -- Assumes nothing.
-use mathlib.Core.Path.{_≡_, refl, sym, ap, _∙_}
+use mathlib.Core.Path.{_≡_, refl, sym, _∙_}
 use mathlib.Core.Bool.{Bool, true, false}
 use mathlib.Core.List.{List, [], _∷_, _++_, append-assoc, append-nil}
 use Prim.Native.Nat.{ℕ, suc, _+_, _-_, _≤_, _<_}
@@ -9,13 +9,17 @@ use native.Mathlib.Nat.{add-zero, add-assoc}
 use native.Mathlib.Numerals.{add-one}
 use native.Mathlib.Omega.{arith}
 use lib.Dec.{leb}
-use lib.ListN.{length, take, drop, set, getD, length-append, length-take, length-drop, length-set, take-append-drop, drop-of-length-le}
-use lib.Seq.{length-take-le, drop-at, take-at, drop-drop, drop-cons, take-set-le, drop-set-lt, set-split, getD-set-same, append-snoc, lt-length-set}
+use lib.ListN.{length, take, drop, set, getD, length-append, length-take, length-drop, take-append-drop, drop-of-length-le}
+use lib.Seq.{drop-at, take-at, drop-drop, drop-cons, take-set-le, drop-set-lt, set-split, getD-set-same, append-snoc, lt-length-set}
 use borrow.Author.Tests.{le-leb, lt-leb, leb-true, leb-false}
 
 -- The text over what stands from `at` on.
 unfoldable pub over : ℕ → List ℕ → List ℕ → List ℕ
 over at text out = take at out ++ text ++ drop (at + length text) out
+
+pub over-nothing : (at : ℕ) (out : List ℕ) → over at [] out ≡ out
+unfolding over
+over-nothing at out = simp (add-zero, append-nil) (take-append-drop at out)
 
 -- What a buffer holds after a text was put at a place.
 unfoldable pub placed : ℕ → List ℕ → List ℕ → List ℕ
@@ -46,10 +50,6 @@ module _ (at : ℕ) (text out : List ℕ) where
   pub length-over : at + length text ≤ length out → length (over at text out) ≡ length out
   unfolding over
   length-over h = simp (length-append, length-take, length-drop) (omega arith)
-
-pub over-nothing : (at : ℕ) (out : List ℕ) → over at [] out ≡ out
-unfolding over
-over-nothing at out = simp (add-zero, append-nil) (take-append-drop at out)
 
 -- Two texts, one behind the other.
 pub over-append : (at : ℕ) (a b out : List ℕ) → at + length a ≤ length out → over (at + length a) b (over at a out) ≡ over at (a ++ b) out
@@ -123,3 +123,22 @@ module _ (at : ℕ) (a b out : List ℕ) where
   pub then : {place r : ℕ} {mid exit : List ℕ} → at + length a + length b ≤ length out → place ≡ at + length a → mid ≡ over at a out
       → r ≡ place + length b → exit ≡ over place b mid → (r ≡ at + length (a ++ b)) × (exit ≡ over at (a ++ b) out)
   then h e k u v = (rw length-append (omega arith), v ∙ rw (e, k) (over-append at a b out (omega arith)))
+
+pub put-nothing : (at : ℕ) (out : List ℕ) → (at ≡ behind at [] out) × (out ≡ placed at [] out)
+put-nothing at out = go (leb (at + 0) (length out)) refl
+  where
+    go : (b : Bool) → leb (at + 0) (length out) ≡ b → (at ≡ behind at [] out) × (out ≡ placed at [] out)
+    go true e = put at [] out (leb-true (at + 0) (length out) e) (sym (add-zero at)) (sym (over-nothing at out))
+    go false e = not-put at [] out (leb-false (at + 0) (length out) e)
+
+-- The place behind a text is within the buffer, which stays as long as it was.
+pub put-within : (at : ℕ) (text out : List ℕ) {r : ℕ} {exit : List ℕ} → at ≤ length out → r ≡ behind at text out → exit ≡ placed at text out → r ≤ length exit
+put-within at text out h e k = rw (e, k) (go (leb (at + length text) (length out)) refl)
+  where
+    go : (b : Bool) → leb (at + length text) (length out) ≡ b → behind at text out ≤ length (placed at text out)
+    go true f =
+        let room = leb-true (at + length text) (length out) f in
+        rw (behind-fits at text out room, placed-fits at text out room, length-over at text out room) room
+    go false f =
+        let short = leb-false (at + length text) (length out) f in
+        rw (behind-short at text out short, placed-short at text out short) h

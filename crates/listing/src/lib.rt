@@ -6,6 +6,7 @@ ghost use Rattle.listing.specs.Place.{placed, behind};
 
 mod input;
 mod line;
+pub mod printing;
 mod text;
 
 use definitions::Line;

@@ -1,0 +1,27 @@
+-- `listing_program::output::put_step` stays within its buffer. Assumes nothing.
+use borrow.Author.Needs.{needs}
+use Rattle.listing.specs.Place.{put-within}
+use Rattle.listing_program.proofs.output.put_step.Statement.{statement}
+use Rattle.listing_program.proofs.output.put_step.Tie as tie
+
+make-room-requires : tie.Need-make-room-requires
+make-room-requires c κs = search needs
+
+put-row-requires : tie.Need-put-row-requires
+put-row-requires c κs = search needs
+
+put-due-requires : tie.Need-put-due-requires
+put-due-requires c κs = search needs
+
+same-length : tie.Need-same-length
+same-length c = search needs
+
+returns : tie.Need-returns
+returns c =
+    let due = c .before .before in
+    let row = due .before .before .before .before in
+    let room = row .before .before in
+    put-within (row .put-row .result) _ _ (put-within (room .make-room .result) _ _ (room .make-room .ensures) (row .put-row .ensures .0) (row .put-row .ensures .1)) (due .put-due .ensures .0) (due .put-due .ensures .1)
+
+pub put-step-spec : {M : Type 1} → statement M
+put-step-spec = tie.close (tie.spec make-room-requires put-row-requires put-due-requires same-length returns)

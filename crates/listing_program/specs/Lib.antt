@@ -1,0 +1,3 @@
+-- What a page's answer tells of its rows, and where rows stand in a slice.
+pub mod Answer
+pub mod Parts

@@ -1,0 +1,55 @@
+// The line that is read, and what is answered to it.
+ghost use Prim.Native.Nat.{_≤_};
+ghost use lib.ListN.{length};
+use crate::output::print_refused;
+use crate::pages::print_list;
+use crate::pages::print_no_list;
+use libc::STDIN_FILENO;
+
+// A byte of the input, or its end.
+pub enum Input {
+    Byte(u8),
+    End,
+}
+
+fn next_byte() -> Input {
+    let mut byte = [0u8; 1];
+    let got = libc::read(STDIN_FILENO, &mut byte);
+    if got == 1 {
+        Input::Byte(byte[0])
+    } else {
+        Input::End
+    }
+}
+
+// Reads the line byte by byte, so that nothing behind its newline is read, and answers how many bytes came.
+// A line that fills the buffer is longer than any that can be read.
+pub fn read_input(input: &mut [u8]) -> usize
+    ensures { λ r. ⌜ r ≤ length (now (input .exit)) ⌝ }
+{
+    let mut n = 0;
+    while n < input.len() {
+        let Input::Byte(b) = next_byte() else {
+            return n;
+        };
+        if b == b'\n' {
+            return n;
+        }
+        input[n] = b;
+        n += 1;
+    }
+    n
+}
+
+// The list, or its refusal: an unlawful page size comes before every other.
+pub fn print_answer(degree: u32, top: u32, size: u32) {
+    if size > 1000 {
+        print_refused(0);
+        return;
+    }
+    if size == 0 {
+        print_no_list(degree, top);
+        return;
+    }
+    print_list(degree, top, size)
+}

@@ -1,0 +1,94 @@
+// The text, written to standard output. A buffer keeps more room than any line takes.
+ghost use Prim.Native.Nat.{_*_, _+_, _≤_, _<_};
+ghost use lib.ListN.{length};
+use libc::STDOUT_FILENO;
+use listing::printing::put_due;
+
+// The first n bytes of a text.
+fn show(text: &[u8], n: usize)
+    requires { ⌜ n ≤ length (now text) ⌝ }
+{
+    io::write_all(STDOUT_FILENO, &text[..n]);
+}
+
+// The line that stands in place of a list.
+pub fn print_refused(number: u32) {
+    let mut space = [0u8; 64];
+    let text: &mut [u8] = &mut space;
+    let n = listing::put_refused(text, 0, number);
+    show(text, n);
+}
+
+// The line above a list.
+pub fn print_header(degree: u32, top: u32) {
+    let mut space = [0u8; 64];
+    let text: &mut [u8] = &mut space;
+    let n = listing::put_header(text, 0, degree, top);
+    show(text, n);
+}
+
+// The line of the one page of an empty list.
+pub fn print_empty() {
+    let mut space = [0u8; 64];
+    let text: &mut [u8] = &mut space;
+    let n = listing::put_page(text, 0, 1, 0, false);
+    show(text, n);
+}
+
+// The line below a list.
+pub fn print_total(rows: u32) {
+    let mut space = [0u8; 64];
+    let text: &mut [u8] = &mut space;
+    let n = listing::put_total(text, 0, rows);
+    show(text, n);
+}
+
+// Where the buffer is nearly full, its text is written and the buffer starts again.
+fn make_room(text: &[u8], at: usize) -> usize
+    requires { ⌜ at ≤ length (now text) ⌝ }
+    ensures { λ r. ⌜ r ≤ length (now (text .entry)) ⌝ }
+{
+    if at < 3584 {
+        return at;
+    }
+    show(text, at);
+    0
+}
+
+// A row, and the line of its page where that ends.
+fn put_step(text: &mut [u8], at: usize, row: &[u32], size: u32, done: u32, further: bool) -> usize
+    requires { ⌜ at ≤ length (now text) ⌝ }
+    requires { ⌜ 1 ≤ size ⌝ }
+    requires { ⌜ done < 4000000000 ⌝ }
+    ensures { λ r. ⌜ r ≤ length (now (text .exit)) ⌝ }
+{
+    let place = make_room(text, at);
+    let end = listing::put_row(text, place, row);
+    put_due(text, end, size, done, further)
+}
+
+// The rows of one page that was asked for, behind `done` rows printed before; `further` says that the list goes on behind them.
+pub fn print_rows(rows: &[u32], width: usize, count: usize, size: u32, done: u32, further: bool)
+    requires { ⌜ count * width ≤ length (now rows) ⌝ }
+    requires { ⌜ 1 ≤ size ⌝ }
+    requires { ⌜ done + count < 4000000000 ⌝ }
+{
+    let mut space = io::buffer();
+    let text: &mut [u8] = &mut space;
+    let mut at = 0;
+    let mut i = 0;
+    while i < count {
+        let from = i * width;
+        let to = from + width;
+        at = put_step(
+            text,
+            at,
+            &rows[from..to],
+            size,
+            done + i as u32,
+            further || i + 1 < count,
+        );
+        i += 1;
+    }
+    show(text, at);
+}

@@ -1,0 +1,4 @@
+// The sheet for teaching: the listing of a degree short enough to hand out.
+fn main() {
+    listing_program::run();
+}
