@@ -1,7 +1,7 @@
 -- Decimal digits one at a time: the last digit stands behind those of a tenth of the number.
 -- `decimalWithin` is the same for every bound that is large enough, since a tenth is smaller than the number.
 -- Assumes nothing.
-use mathlib.Core.Path.{_≡_, refl, sym, ap, _∙_}
+use mathlib.Core.Path.{_≡_, refl, ap, _∙_}
 use mathlib.Core.Bool.{Bool, true, false}
 use mathlib.Core.List.{List, [], _∷_, _++_}
 use Prim.Native.Nat.{ℕ, zero, suc, _+_, _-_, _/_, _%_, _≤_, _<_}

@@ -5,4 +5,5 @@ pub mod Rows
 pub mod Lines
 pub mod Line
 pub mod Words
+pub mod LongLine
 pub mod Printed

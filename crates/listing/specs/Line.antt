@@ -2,18 +2,18 @@
 -- What is asked, with some numbers read and the rest of the line to come, is settled by the next word.
 -- Assumes nothing.
 use mathlib.Core.Path.{_≡_, refl, sym, ap, _∙_}
-use mathlib.Core.Bool.{Bool, true, false, _&&_}
-use mathlib.Core.List.{List, [], _∷_, _++_, map, append-assoc}
-use Prim.Native.Nat.{ℕ, zero, suc, _+_, _-_, _*_, _≤_, _<_}
+use mathlib.Core.Bool.{Bool, true, false}
+use mathlib.Core.List.{List, [], _∷_, _++_, map}
+use Prim.Native.Nat.{ℕ, suc, _+_, _≤_, _<_}
 use native.Mathlib.Numerals.{add-one}
 use native.Mathlib.Omega.{arith}
-use lib.Dec.{eqb, leb}
+use lib.Dec.{eqb}
 use lib.ListN.{length, take, drop, getD, drop-of-length-le}
-use lib.Seq.{slice, slice-cons, slice-empty, length-slice, drop-cons, drop-at, take-add, length-take-le, append-snoc}
-use borrow.Author.Tests.{eq-eqb, ne-eqb, le-leb, lt-leb}
-use Rattle.definitions.specs.Listing.{newline, space, lineOf, wordsOf, extend, allDigits, isNumber, areNumbers, decimalFrom, asked, readLine}
+use lib.Seq.{slice, drop-cons, drop-at, take-add, length-take-le}
+use borrow.Author.Tests.{eq-eqb, ne-eqb}
+use Rattle.definitions.specs.Listing.{newline, lineOf, wordsOf, isNumber, areNumbers, decimalFrom, asked, readLine}
 use Rattle.definitions.specs.declared.Line.{Line}
-use Rattle.definitions.specs.declared.Line.the-variants.{Asked, Unreadable}
+use Rattle.definitions.specs.declared.Line.the-variants.{Unreadable}
 use Rattle.listing.specs.declared.input.Word.{Word}
 use Rattle.listing.specs.declared.input.Word.the-variants.{Number, NoNumber}
 

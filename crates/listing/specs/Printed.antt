@@ -1,14 +1,13 @@
 -- The list printed row by row: behind a row stands the line of its page where the row is the page's last or the list's last.
 -- So printed, the rows are the pages of the listing: by the rows left on the page, and then by the pages.
 -- Assumes nothing.
-use mathlib.Core.Path.{_≡_, refl, sym, ap, _∙_}
+use mathlib.Core.Path.{_≡_, refl, ap, _∙_}
 use mathlib.Core.Bool.{Bool, true, false, _||_, not}
 use mathlib.Core.List.{List, [], _∷_, _++_, map, append-assoc, append-nil}
 use Prim.Native.Nat.{ℕ, zero, suc, _+_, _-_, _*_, _/_, _%_, _≤_, _<_}
 use native.Mathlib.Nat.{zero-add, add-zero, zero-mul, mod-lt, mul-add-div-right, div-eq-of-lt, mul-add-mod-self-right, mod-eq-of-lt}
 use native.Mathlib.Numerals.{add-one}
 use native.Mathlib.Omega.{arith}
-use native.Mathlib.Decide.{ℕ-discrete}
 use lib.Dec.{eqb, ltb}
 use lib.ListN.{length, take, drop, length-drop}
 use lib.Seq.{take-nil}
@@ -175,3 +174,20 @@ module _ (size done : ℕ) (h : 1 ≤ size) where
 
   pub due-at-full : size ≤ done % size + 1 → dueText size done true ≡ pageText (done / size + 1) (done % size + 1) true
   due-at-full l = due-true size done true (eq-eqb (done % size + 1) size (omega (arith, mod-lt done h)))
+
+-- Some rows of the list, of which more follow or not, as a program prints them that has the list in parts.
+unfoldable pub partText : ℕ → ℕ → Bool → List (List ℕ) → List ℕ
+partText size done further [] = []
+partText size done further (r ∷ rows) = rowText r ++ dueText size done (some rows || further) ++ partText size (suc done) further rows
+
+some-append : (a b : List (List ℕ)) → some (a ++ b) ≡ (some a || some b)
+some-append [] b = refl
+some-append (r ∷ a) b = refl
+
+-- The parts joined are the rows of the whole list, wherever it is cut.
+pub parts-are-printed : (size done : ℕ) (a b : List (List ℕ)) → partText size done (some b) a ++ printed size (done + length a) b ≡ printed size done (a ++ b)
+unfolding partText printed
+parts-are-printed size done [] b = rw (add-zero done)
+parts-are-printed size done (r ∷ a) b =
+    let next : done + suc (length a) ≡ suc done + length a = omega arith in
+    rw (next, append-assoc (rowText r ++ dueText size done (some a || some b)) (partText size (suc done) (some b) a) (printed size (suc done + length a) b), parts-are-printed size (suc done) a b, some-append a b)

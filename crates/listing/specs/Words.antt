@@ -2,19 +2,19 @@
 -- and a word by its next byte.
 -- Assumes nothing.
 use mathlib.Core.Path.{_≡_, refl, sym, ap, _∙_}
-use mathlib.Core.Bool.{Bool, true, false, _&&_, and-false}
+use mathlib.Core.Bool.{Bool, true, false}
 use mathlib.Core.List.{List, [], _∷_, _++_, map, append-nil}
-use Prim.Native.Nat.{ℕ, zero, suc, _+_, _-_, _*_, _^_, _≤_, _<_}
+use Prim.Native.Nat.{ℕ, suc, _+_, _-_, _*_, _^_, _≤_, _<_}
 use native.Mathlib.Nat.{pow-suc, pow-le-pow-right, lt-of-lt-of-le}
 use native.Mathlib.Numerals.{add-one}
 use native.Mathlib.Omega.{arith}
-use lib.Dec.{eqb, leb}
+use lib.Dec.{eqb}
 use lib.ListN.{length, drop, getD, length-drop}
 use lib.Seq.{append-snoc, slice, slice-cons, drop-drop}
 use borrow.Author.Tests.{le-leb, lt-leb}
-use Rattle.definitions.specs.Listing.{space, wordsOf, extend, allDigits, isNumber, areNumbers, decimalFrom, asked, longestNumber}
+use Rattle.definitions.specs.Listing.{space, wordsOf, allDigits, isNumber, areNumbers, decimalFrom, asked}
 use Rattle.definitions.specs.declared.Line.{Line}
-use Rattle.definitions.specs.declared.Line.the-variants.{Asked, Unreadable}
+use Rattle.definitions.specs.declared.Line.the-variants.{Unreadable}
 use Rattle.listing.specs.declared.input.Word.{Word}
 use Rattle.listing.specs.declared.input.Word.the-variants.{Number, NoNumber}
 use Rattle.listing.specs.Line.{upTo, up-to-short, part-up-to, wordOf, askedWith, askedFrom}
@@ -24,7 +24,7 @@ unfoldable pub otherWords : List ℕ → List (List ℕ)
 otherWords [] = []
 otherWords (b ∷ s) = elim (eqb b space) [ true ↦ wordsOf s | false ↦ otherWords s ]
 
-words-first : (l : List ℕ) → wordsOf l ≡ upTo space l ∷ otherWords l
+pub words-first : (l : List ℕ) → wordsOf l ≡ upTo space l ∷ otherWords l
 unfolding wordsOf upTo otherWords
 words-first [] = refl
 words-first (b ∷ s) = go (eqb b space) refl (words-first s)

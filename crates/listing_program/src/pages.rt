@@ -10,6 +10,9 @@ use definitions::PageAnswer;
 use definitions::PageRequest;
 use definitions::Position;
 
+// Room for 4096 rows of the widest kind, more than any degree has.
+const ROOM: usize = 36864;
+
 // The rows at hand, and whether the list goes on behind them.
 pub struct Part {
     pub count: usize,
@@ -34,7 +37,7 @@ pub fn print_no_list(degree: u32, top: u32) {
 pub fn print_list(degree: u32, top: u32, size: u32)
     requires { ⌜ 1 ≤ size ⌝ }
 {
-    let mut space = [0u32; 18432];
+    let mut space = [0u32; ROOM];
     let rows: &mut [u32] = &mut space;
     let request = PageRequest {
         degree,
@@ -75,7 +78,7 @@ fn next_part(rows: &mut [u32], degree: u32, top: u32, count: usize) -> Part
 fn print_pages(rows: &mut [u32], degree: u32, top: u32, size: u32, count: usize, further: bool)
     requires { ⌜ 1 ≤ top ⌝ }
     requires { ⌜ 1 ≤ size ⌝ }
-    requires { ⌜ length (now rows) ≤ 18432 ⌝ }
+    requires { ⌜ length (now rows) ≤ 36864 ⌝ }
     requires { ⌜ count * (top + 1) ≤ length (now rows) ⌝ }
 {
     print_header(degree, top);

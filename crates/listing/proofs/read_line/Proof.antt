@@ -1,13 +1,8 @@
 -- `listing::read_line` reads the line up to its end. Assumes nothing.
-use mathlib.Core.Path.{_≡_, sym, ap, _∙_}
-use Prim.Native.Nat.{_+_}
-use native.Mathlib.Omega.{arith}
+use mathlib.Core.Path.{_∙_}
 use denote.Ref.{now}
-use lib.ListN.{length, take}
-use lib.Seq.{length-take-le}
 use borrow.Author.Needs.{needs}
-use Rattle.definitions.specs.Listing.{newline}
-use Rattle.listing.specs.Line.{read-line, line-part, line-part-length}
+use Rattle.listing.specs.Line.{line-part, line-part-length}
 use Rattle.listing.proofs.read_line.Statement.{statement}
 use Rattle.listing.proofs.read_line.Tie as tie
 

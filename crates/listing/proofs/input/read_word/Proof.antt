@@ -1,10 +1,10 @@
 -- `listing::input::read_word` reads a word as a number. The invariant: the value has at most as many digits as were read, and the digits that
 -- are left make of it what the word is. The measure is how many bytes are left. Assumes nothing.
-use mathlib.Core.Path.{_≡_, refl, sym, ap, _∙_}
-use Prim.Native.Nat.{ℕ, suc, _+_, _-_, _^_, _≤_, _<_}
+use mathlib.Core.Path.{_≡_, sym, _∙_}
+use Prim.Native.Nat.{suc, _+_, _-_, _^_, _≤_, _<_}
 use native.Mathlib.Omega.{arith}
 use denote.Ref.{now}
-use lib.ListN.{length, getD}
+use lib.ListN.{getD}
 use lib.Seq.{slice, length-slice, slice-empty}
 use borrow.Author.Needs.{needs}
 use Rattle.listing.specs.Line.{wordOf}

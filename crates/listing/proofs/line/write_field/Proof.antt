@@ -1,9 +1,6 @@
 -- `listing::line::write_field` writes a word and then the digits of a number behind it. Assumes nothing.
-use mathlib.Core.Path.{sym, _∙_, ap}
-use Prim.Native.Nat.{_+_, _≤_}
 use native.Mathlib.Omega.{arith}
 use denote.Ref.{now}
-use lib.ListN.{length, length-append}
 use borrow.Author.Needs.{needs}
 use Rattle.definitions.specs.Listing.{decimal}
 use Rattle.listing.specs.Place.{then, then-room}

@@ -1,7 +1,6 @@
 -- `listing::text::row_fits` tests that a row's text fits. The invariant: what is left of the room and the bytes of the numbers passed are the room.
 -- The measure is how many numbers are left. Assumes nothing.
-use mathlib.Core.Path.{_≡_, sym, ap, _∙_}
-use mathlib.Core.Bool.{Bool}
+use mathlib.Core.Path.{_≡_, sym, ap}
 use Prim.Native.Nat.{ℕ, _+_, _-_, _≤_, _<_}
 use native.Mathlib.Omega.{arith}
 use denote.Ref.{now}

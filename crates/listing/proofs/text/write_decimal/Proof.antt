@@ -1,7 +1,7 @@
 -- `listing::text::write_decimal` writes the digits of n over what stood at the place. The invariant: the digits of the rest end at the place of
 -- the next one, and over what stands there now they are the digits of n over what stood there at first. The measure is the rest. Assumes nothing.
-use mathlib.Core.Path.{_≡_, refl, sym, ap, _∙_}
-use Prim.Native.Nat.{ℕ, _+_, _-_, _≤_}
+use mathlib.Core.Path.{_≡_, refl, ap, _∙_}
+use Prim.Native.Nat.{ℕ, _+_, _≤_}
 use native.Mathlib.Omega.{arith}
 use lib.ListN.{length, length-set}
 use borrow.Author.Needs.{needs}

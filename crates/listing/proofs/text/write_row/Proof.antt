@@ -1,7 +1,7 @@
 -- `listing::text::write_row` writes a row's text over what stood at the place. The invariant: what is left of the text, over what stands
 -- behind the i numbers written, is the whole text over what stood there at first. The measure is how many numbers are left. Assumes nothing.
-use mathlib.Core.Path.{_≡_, refl, sym, ap, _∙_}
-use Prim.Native.Nat.{ℕ, _+_, _-_, _≤_}
+use mathlib.Core.Path.{_≡_, refl, ap, _∙_}
+use Prim.Native.Nat.{_+_, _-_, _≤_}
 use native.Mathlib.Omega.{arith}
 use denote.Ref.{now}
 use lib.ListN.{length, drop, getD, length-set}

@@ -1,12 +1,12 @@
 -- `listing::text::write_word` writes the word over what stood at the place. The invariant: what is left of the word, over what stands behind
 -- the i bytes written, is the whole word over what stood there at first. The measure is how many bytes are left. Assumes nothing.
-use mathlib.Core.Path.{_≡_, refl, sym, ap, _∙_}
-use Prim.Native.Nat.{ℕ, _+_, _-_, _≤_}
+use mathlib.Core.Path.{_≡_, refl, _∙_}
+use Prim.Native.Nat.{_+_, _-_, _≤_}
 use native.Mathlib.Nat.{add-zero}
 use native.Mathlib.Omega.{arith}
 use lib.ListN.{length, drop, length-set}
 use borrow.Author.Needs.{needs}
-use Rattle.listing.specs.Place.{over, over-turn, over-nothing, over-end}
+use Rattle.listing.specs.Place.{over, over-turn, over-end}
 use Rattle.listing.proofs.text.write_word.Statement.{statement}
 use Rattle.listing.proofs.text.write_word.Tie as tie
 

@@ -1,5 +1,4 @@
 -- `listing_program::output::put_step` stays within its buffer. Assumes nothing.
-use native.Mathlib.Omega.{arith}
 use borrow.Author.Needs.{needs}
 use Rattle.listing.specs.Place.{put-within}
 use Rattle.listing_program.proofs.output.put_step.Statement.{statement}

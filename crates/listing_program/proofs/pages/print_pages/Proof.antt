@@ -13,13 +13,13 @@ use Rattle.listing_program.proofs.pages.print_pages.Tie as tie
 
 abbrev Inv-loop : tie.InvT-loop
 Inv-loop rows₀ degree top size count further width done₀ n₀ more₀ rows done n more =
-    (length rows ≡ length rows₀) × (n * (top + 1) ≤ length rows) × (done ≤ 1000018432)
+    (length rows ≡ length rows₀) × (n * (top + 1) ≤ length rows) × (done ≤ 1000036864)
 
 abbrev μ-loop : tie.MeasureT-loop
 μ-loop rows₀ degree top size count further width done₀ n₀ more₀ rows done n more = 2 * (2000000000 - done) + min n 1
 
 -- The rows at hand are few.
-few : (top n size : ℕ) → n * (top + 1) ≤ size → size ≤ 18432 → n ≤ 18432
+few : (top n size : ℕ) → n * (top + 1) ≤ size → size ≤ 36864 → n ≤ 36864
 few top n size h k = let r = rows-few n (top + 1) size (omega arith) h in omega arith
 
 -- What a turn starts with.
@@ -28,7 +28,7 @@ turn c = (ltb-true _ _ (c .before .before .if2 .taken), ltb-true _ _ (c .before 
 
 -- What the next part is.
 part : (c : tie.After-next-part Inv-loop μ-loop) → let start = c .before .before .before .before .before .before .before .before .before .before .before in
-    (length (c .next-part .last .0) ≡ length (now (start .args .rows))) × (c .next-part .result .count ≤ 18432)
+    (length (c .next-part .last .0) ≡ length (now (start .args .rows))) × (c .next-part .result .count ≤ 36864)
 part c =
     let here = c .before .before .before .before .before .loop in
     let start = c .before .before .before .before .before .before .before .before .before .before .before in
