@@ -40,12 +40,12 @@ use Rattle.page_laws.specs.Search.{Search, offerAll, found, search-page, start-
 use Rattle.ranking_laws.specs.Met.{met, met-wide, tree-ranked, tValues-length}
 use Rattle.generator.specs.Lawful.{Lawful}
 use Rattle.generator.specs.Judging.{pairJudgement, ill-formed, not-primitive, not-linear, not-coprime}
-use Rattle.ranking.specs.Frame.{topOf, placeIf, placeFrom, offers, Framed, Searching}
-use Rattle.ranking.specs.Standing.{begun}
-use Rattle.ranking.specs.Walk.{Ready}
+use Rattle.search.specs.Frame.{topOf, placeIf, placeFrom, offers, Framed, Searching}
+use Rattle.search.specs.Standing.{begun}
+use Rattle.search.specs.Walk.{Ready}
 use Rattle.ranking.specs.Serve.{LawfulTop, tooShort, rowsAt, servedAnswer, servedSlice, Keyed}
-use Rattle.ranking.specs.declared.search.Frame.{Frame}
-use Rattle.ranking.proofs.RankLaws.{write-first}
+use Rattle.search.specs.declared.frame.Frame.{Frame}
+use Rattle.search.specs.Weighing.{write-first}
 
 -- ---- the walk from the root
 

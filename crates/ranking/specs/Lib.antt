@@ -1,5 +1,2 @@
 -- What the contracts of this crate cite beside the definitions.
-pub mod Frame
-pub mod Standing
-pub mod Walk
 pub mod Serve

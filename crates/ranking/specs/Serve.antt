@@ -11,7 +11,7 @@ use Rattle.definitions.specs.declared.Refusal.{Refusal}
 use Rattle.definitions.specs.declared.Refusal.the-variants.{ShortSlice}
 use Rattle.definitions.specs.declared.PageAnswer.{PageAnswer}
 use Rattle.definitions.specs.declared.PageAnswer.the-variants.{Page, NoPage}
-use Rattle.ranking.specs.Standing.{begun}
+use Rattle.search.specs.Standing.{begun}
 
 pub record LawfulTop (top : ℕ) : Type 0 where
   pub low : leastTop ≤ top

@@ -11,16 +11,16 @@ ghost use Rattle.definitions.specs.Ranking.{row, rowKey};
 ghost use Rattle.definitions.specs.declared.PageAnswer.the-variants.{NoPage};
 ghost use Rattle.fraction_laws.specs.WellFormed.{WellFormed};
 ghost use Rattle.generator.specs.Lawful.{Lawful};
-ghost use Rattle.ranking.specs.Frame.{placeIf};
+ghost use Rattle.search.specs.Frame.{placeIf};
 ghost use Rattle.ranking.specs.Serve.{LawfulTop, servedAnswer, servedSlice, Keyed};
-use crate::search::Frame;
-use crate::search::Tally;
-use crate::walk;
 use definitions::Judgement;
 use definitions::PageAnswer;
 use definitions::Refusal;
 use generator::pair;
 use net::values;
+use search::frame::Frame;
+use search::frame::Tally;
+use search::walk;
 
 // Walks down the tree from its root. The slice must hold a row; it is the only room that the search needs.
 fn serve(degree: u32, top: u32, after: bool, last: &[u32], out: &mut [u32]) -> PageAnswer

@@ -2,7 +2,7 @@
 use mathlib.Core.Path.{sym, _∙_}
 use native.Mathlib.Omega.{arith}
 use lib.ListN.{length-set}
-use Rattle.ranking.proofs.RankLaws.{modulo, stop}
+use Rattle.search.specs.Weighing.{modulo, stop}
 use Rattle.ranking.proofs.ServeLaws as laws
 use borrow.Author.Needs.{needs}
 use Rattle.ranking.proofs.serve.write_key.Statement.{statement}

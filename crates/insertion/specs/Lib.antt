@@ -1,0 +1,1 @@
+-- The contracts of this crate cite definitions and page_laws alone.

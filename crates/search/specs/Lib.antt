@@ -1,0 +1,5 @@
+-- What the contracts of this crate cite beside the definitions.
+pub mod Frame
+pub mod Standing
+pub mod Weighing
+pub mod Walk

@@ -1,0 +1,117 @@
+// What becomes of a pair that the walk meets.
+ghost use mathlib.Core.Path.{_≡_};
+ghost use mathlib.Core.Bool.{true};
+ghost use mathlib.Core.List.{_∷_, []};
+ghost use Prim.Native.Nat.{_≤_};
+ghost use lib.ListN.{length, take};
+ghost use Rattle.definitions.specs.Generator.{linearQuotients, primitive, accepted};
+ghost use Rattle.definitions.specs.Pages.{above};
+ghost use Rattle.definitions.specs.Ranking.{rowKey};
+ghost use Rattle.fraction_laws.specs.WellFormed.{WellFormed};
+ghost use Rattle.page_laws.specs.Rows.{Kept, inserted};
+ghost use Rattle.page_laws.specs.Search.{Search};
+ghost use Rattle.ranking_laws.specs.Met.{met};
+ghost use Rattle.search.specs.Frame.{topOf, placeFrom, stateOf, offers, offer, Framed, Keeping, Searching};
+ghost use Rattle.search.specs.Standing.{rowIn, Begun};
+use crate::frame::Frame;
+use crate::frame::Tally;
+use crate::rank;
+use crate::rank::Standing;
+use generator::primitive::has_full_order;
+use generator::primitive::is_primitive;
+use generator::step::find_step;
+use insertion::rows;
+
+// Whether a row stands above the position.
+fn is_above(row: &[u32], f: Frame, last: &[u32]) -> bool
+    requires { ⌜ Framed f (now last) × (f .width ≤ length (now row)) ⌝ }
+    ensures { λ r. ⌜ r ≡ above (placeFrom f (now (last .entry))) (rowKey (take (f .width) (now (row .entry)))) ⌝ }
+{
+    if !f.after {
+        return true;
+    }
+    let w = f.width;
+    rows::stands_before(last, 0, row, 0, w)
+}
+
+// Puts the row of a pair in its slot, where it fits, and answers how many rows are kept. The step is looked for only then.
+fn keep_row(p: u32, q: u32, out: &mut [u32], n: usize, f: Frame, row: &mut [u32]) -> usize
+    requires { ⌜ Keeping f n (now out) ⌝ }
+    requires { ⌜ WellFormed (f .degree) p q ⌝ }
+    requires { ⌜ primitive (f .degree) p ≡ true ⌝ }
+    requires { ⌜ Begun f p q (now row) ⌝ }
+    ensures { λ r. ⌜ _≡_ {A = Kept} (record { out = now (out .exit); n = r }) (inserted rowKey (f .width) (f .capacity) (rowIn f p q) (record { out = now (out .entry); n = n })) ⌝ }
+{
+    let m = f.degree;
+    let w = f.width;
+    let cap = f.capacity;
+    let at = rows::find_slot(out, n, w, row);
+    if at < cap {
+        row[2] = find_step(m, p, q);
+        return rows::insert_row(out, n, w, cap, at, row);
+    }
+    n
+}
+
+// Offers a row whose t-values are known.
+fn offer_known(
+    p: u32,
+    q: u32,
+    out: &mut [u32],
+    t: Tally,
+    f: Frame,
+    last: &[u32],
+    row: &mut [u32],
+) -> Tally
+    requires { ⌜ Searching f (now last) 1 (stateOf (now out) t) ⌝ }
+    requires { ⌜ WellFormed (f .degree) p q ⌝ }
+    requires { ⌜ primitive (f .degree) p ≡ true ⌝ }
+    requires { ⌜ Begun f p q (now row) ⌝ }
+    ensures { λ r. ⌜ _≡_ {A = Search} (stateOf (now (out .exit)) r) (offer f (now (last .entry)) (rowIn f p q) (stateOf (now (out .entry)) t)) ⌝ }
+{
+    if !is_above(row, f, last) {
+        return t;
+    }
+    let n = t.kept;
+    let kept = keep_row(p, q, out, n, f, row);
+    Tally {
+        kept: kept,
+        count: t.count + 1,
+    }
+}
+
+// Offers the row of an accepted pair.
+fn offer_row(p: u32, q: u32, out: &mut [u32], t: Tally, f: Frame, last: &[u32]) -> Tally
+    requires { ⌜ Searching f (now last) 1 (stateOf (now out) t) ⌝ }
+    requires { ⌜ WellFormed (f .degree) p q ⌝ }
+    requires { ⌜ accepted (f .degree) p q ≡ true ⌝ }
+    ensures { λ r. ⌜ _≡_ {A = Search} (stateOf (now (out .exit)) r) (offer f (now (last .entry)) (rowIn f p q) (stateOf (now (out .entry)) t)) ⌝ }
+{
+    let mut numbers: [u32; 9] = [0; 9];
+    let standing = rank::weigh(p, q, out, t, f, last, &mut numbers);
+    match standing {
+        Standing::Low => t,
+        Standing::High => Tally {
+            kept: t.kept,
+            count: t.count + 1,
+        },
+        Standing::Open => offer_known(p, q, out, t, f, last, &mut numbers),
+    }
+}
+
+// Offers the row of a pair of the tree, where the pair is accepted.
+pub fn offer_pair(p: u32, q: u32, out: &mut [u32], t: Tally, f: Frame, last: &[u32]) -> Tally
+    requires { ⌜ Searching f (now last) 1 (stateOf (now out) t) ⌝ }
+    requires { ⌜ WellFormed (f .degree) p q ⌝ }
+    requires { ⌜ linearQuotients p q ≡ true ⌝ }
+    ensures { λ r. ⌜ _≡_ {A = Search} (stateOf (now (out .exit)) r) (offers f (now (last .entry)) (met (f .degree) (topOf f) (record { p = p; q = q } ∷ [])) (stateOf (now (out .entry)) t)) ⌝ }
+{
+    let m = f.degree;
+    if !is_primitive(m, p) {
+        return t;
+    }
+    if !has_full_order(m, p, q) {
+        return t;
+    }
+    offer_row(p, q, out, t, f, last)
+}

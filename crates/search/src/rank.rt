@@ -1,0 +1,97 @@
+// Where a pair's key stands among the rows kept, by its t-values one after the other, as far as they are needed.
+ghost use mathlib.Core.Path.{_≡_};
+ghost use mathlib.Core.Bool.{true, _&&_};
+ghost use Prim.Native.Nat.{_+_, _-_, _*_, _<_, _≤_};
+ghost use lib.Dec.{eqb};
+ghost use lib.ListN.{length, drop};
+ghost use Rattle.definitions.specs.Pages.{before};
+ghost use Rattle.definitions.specs.Generator.{accepted};
+ghost use Rattle.fraction_laws.specs.WellFormed.{WellFormed};
+ghost use Rattle.search.specs.Frame.{stateOf, Searching};
+ghost use Rattle.search.specs.Standing.{ranksOf, Weighed};
+use crate::frame::Frame;
+use crate::frame::Tally;
+use net::values::next_t;
+
+// Where a key stands: not above the position; above it and behind every row kept, with no room left; or neither is known.
+pub enum Standing {
+    Low,
+    High,
+    Open,
+}
+
+// Whether the t-values among the first `s` numbers of the row of `a` at `i` stand before those of `b` at `j`.
+fn ranks_before(a: &[u32], i: usize, b: &[u32], j: usize, s: usize) -> bool
+    requires { ⌜ (3 ≤ s) × (i + s ≤ length (now a)) × (j + s ≤ length (now b)) ⌝ }
+    ensures { λ r. ⌜ r ≡ before (ranksOf s (drop i (now (a .entry)))) (ranksOf s (drop j (now (b .entry)))) ⌝ }
+{
+    let mut k: usize = 3;
+    while k < s {
+        let x = a[i + k];
+        let y = b[j + k];
+        if x != y {
+            return x < y;
+        }
+        k += 1;
+    }
+    false
+}
+
+// Whether the first t-values put a row before the position.
+fn is_low(row: &[u32], s: usize, f: Frame, last: &[u32]) -> bool
+    requires { ⌜ (3 ≤ s) × (s ≤ length (now row)) × (s ≤ length (now last)) ⌝ }
+    ensures { λ r. ⌜ r ≡ (f .after && before (ranksOf s (now (row .entry))) (ranksOf s (now (last .entry)))) ⌝ }
+{
+    if !f.after {
+        return false;
+    }
+    ranks_before(row, 0, last, 0, s)
+}
+
+// Whether there is no room left, and the first t-values put a row behind the last one kept.
+fn is_high(row: &[u32], s: usize, out: &[u32], t: Tally, f: Frame) -> bool
+    requires { ⌜ (3 ≤ s) × (s ≤ length (now row)) × (s ≤ f .width) × (1 ≤ f .capacity) × (f .capacity * f .width ≤ length (now out)) ⌝ }
+    ensures { λ r. ⌜ r ≡ (eqb (t .kept) (f .capacity) && before (ranksOf s (drop ((t .kept - 1) * f .width) (now (out .entry)))) (ranksOf s (now (row .entry)))) ⌝ }
+{
+    if t.kept != f.capacity {
+        return false;
+    }
+    ranks_before(out, (t.kept - 1) * f.width, row, 0, s)
+}
+
+// Writes p, q and the t-values of a pair to `row`, with 0 for the step, and says where its key stands. It stops as soon as that is known.
+pub fn weigh(
+    p: u32,
+    q: u32,
+    out: &[u32],
+    t: Tally,
+    f: Frame,
+    last: &[u32],
+    row: &mut [u32],
+) -> Standing
+    requires { ⌜ Searching f (now last) 1 (stateOf (now out) t) ⌝ }
+    requires { ⌜ WellFormed (f .degree) p q ⌝ }
+    requires { ⌜ accepted (f .degree) p q ≡ true ⌝ }
+    requires { ⌜ length (now row) ≡ 9 ⌝ }
+    ensures { λ r. ⌜ Weighed f (now (last .entry)) (stateOf (now (out .entry)) t) p q (now (row .exit)) r ⌝ }
+{
+    let m = f.degree;
+    let w = f.width;
+    row[0] = p;
+    row[1] = q;
+    row[2] = 0;
+    let mut value = next_t(m, p, q, 2, 0, 2);
+    let mut s: usize = 3;
+    while s < w {
+        value = next_t(m, p, q, s, value, 2);
+        row[s] = value;
+        s += 1;
+        if is_low(row, s, f, last) {
+            return Standing::Low;
+        }
+        if is_high(row, s, out, t, f) {
+            return Standing::High;
+        }
+    }
+    Standing::Open
+}
