@@ -2,3 +2,4 @@
 pub mod Boundary
 pub mod Located
 pub mod Rows
+pub mod Unique

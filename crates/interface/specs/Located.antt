@@ -1,6 +1,6 @@
 -- Where a degree's body lies in a catalogue, for C, which gets no part of a slice but a place and numbers.
 -- The place and the numbers of one lookup cut the very part that a lookup gives, by where the entry is. Assumes nothing.
-use mathlib.Core.Path.{_≡_, refl, ap, _∙_}
+use mathlib.Core.Path.{_≡_, refl, _∙_}
 use mathlib.Core.List.{List}
 use Prim.Native.Nat.{ℕ, _+_, _*_, _≤_}
 use native.Mathlib.Omega.{arith}

@@ -98,14 +98,10 @@ module _ (w i : ℕ) (a : List ℕ) (h : i + w ≤ length a) where
       ap (λ (t : List ℕ). t ++ take 2 (take w (drop i a)))
       (drop-cons (take w (drop i a)) k 0 (omega (arith, length-row)) ∙ ap₂ (λ (x n : ℕ). x ∷ drop n (take w (drop i a))) (number-at k l) (sym (add-one k)))
 
-  key-end : (k : ℕ) → w ≤ k → 3 < w → keyFrom k (take w (drop i a)) ≡ getD a i 0 ∷ getD a (i + 1) 0 ∷ []
+  key-end : (k : ℕ) → w ≤ k → 3 < w → keyFrom k (take w (drop i a)) ≡ take 2 (drop i a)
   unfolding keyFrom
   key-end k e l =
-      let r : List ℕ = take w (drop i a) in
-      let n : length r ≡ w = length-row in
-      ap₂ (λ (t u : List ℕ). t ++ u) (drop-of-length-le r {i = k} (omega arith))
-      (take-suc r 1 0 (omega arith) ∙ ap (λ (t : List ℕ). t ++ (getD r 1 0 ∷ [])) (take-suc r 0 0 (omega arith))
-      ∙ ap₂ (λ (x y : ℕ). x ∷ y ∷ []) (number-at 0 (omega arith) ∙ ap (λ (m : ℕ). getD a m 0) (add-zero i)) (number-at 1 (omega arith)))
+      ap₂ (λ (t u : List ℕ). t ++ u) (drop-of-length-le (take w (drop i a)) {i = k} (omega (arith, length-row))) (take-take 2 w (drop i a) (omega arith))
 
 -- The two keys compare as what is left of them from place k on.
 abbrev pub Left : ℕ → ℕ → List ℕ → ℕ → List ℕ → ℕ → Type 0
@@ -130,14 +126,27 @@ module _ (w i j : ℕ) (a b : List ℕ) where
     pub left-more : k < w → getD a (i + k) 0 ≡ getD b (j + k) 0 → Left w i a j b (k + 1)
     left-more l e = heads l ∙ before-same _ _ _ _ e
 
-    ends : w ≤ k → keys ≡ before (getD a i 0 ∷ getD a (i + 1) 0 ∷ []) (getD b j 0 ∷ getD b (j + 1) 0 ∷ [])
-    ends l = inv ∙ ap₂ before (key-end w i a (pre .1) k l (pre .0)) (key-end w j b (pre .2) k l (pre .0))
+    pub end-done : {r : Bool} → w ≤ k → r ≡ before (take 2 (drop i a)) (take 2 (drop j b)) → r ≡ keys
+    end-done l e = e ∙ sym (inv ∙ ap₂ before (key-end w i a (pre .1) k l (pre .0)) (key-end w j b (pre .2) k l (pre .0)))
 
-    pub end-differ : w ≤ k → (getD a i 0 ≡ getD b j 0 → ⊥) → ltb (getD a i 0) (getD b j 0) ≡ keys
-    end-differ l n = sym (ends l ∙ before-differ _ _ _ _ n)
+-- ---- comparing two pairs
 
-    pub end-same : w ≤ k → getD a i 0 ≡ getD b j 0 → ltb (getD a (i + 1) 0) (getD b (j + 1) 0) ≡ keys
-    end-same l e = sym (ends l ∙ before-same _ _ _ _ e ∙ before-single _ _)
+pair-at : (i : ℕ) (a : List ℕ) → i + 2 ≤ length a → take 2 (drop i a) ≡ getD a i 0 ∷ getD a (i + 1) 0 ∷ []
+pair-at i a h =
+    let l : 2 ≤ length (drop i a) = omega (arith, length-drop i a) in
+    take-suc (drop i a) 1 0 (omega arith)
+    ∙ ap (λ (t : List ℕ). t ++ (getD (drop i a) 1 0 ∷ [])) (take-suc (drop i a) 0 0 (omega arith))
+    ∙ ap₂ (λ (x y : ℕ). x ∷ y ∷ []) (getD-drop i a 0 0 ∙ ap (λ (m : ℕ). getD a m 0) (add-zero i)) (getD-drop i a 1 0)
+
+module _ (i j : ℕ) (a b : List ℕ) (pre : (i + 2 ≤ length a) × (j + 2 ≤ length b)) where
+  pairs : before (take 2 (drop i a)) (take 2 (drop j b)) ≡ before (getD a i 0 ∷ getD a (i + 1) 0 ∷ []) (getD b j 0 ∷ getD b (j + 1) 0 ∷ [])
+  pairs = ap₂ before (pair-at i a (pre .0)) (pair-at j b (pre .1))
+
+  pub pair-differ : (getD a i 0 ≡ getD b j 0 → ⊥) → ltb (getD a i 0) (getD b j 0) ≡ before (take 2 (drop i a)) (take 2 (drop j b))
+  pair-differ n = sym (pairs ∙ before-differ _ _ _ _ n)
+
+  pub pair-same : getD a i 0 ≡ getD b j 0 → ltb (getD a (i + 1) 0) (getD b (j + 1) 0) ≡ before (take 2 (drop i a)) (take 2 (drop j b))
+  pair-same e = sym (pairs ∙ before-same _ _ _ _ e ∙ before-single _ _)
 
 -- ---- the slot by halves
 

@@ -8,6 +8,21 @@ ghost use Rattle.definitions.specs.Ranking.{rowKey};
 ghost use Rattle.page_laws.specs.Slot.{slot, Ordered};
 ghost use Rattle.page_laws.specs.Rows.{rowsOf, shifted, spliced, inserted, Kept};
 
+// Whether the pair of the row of `a` at `i` stands before that of `b` at `j`: by p, then by q.
+fn pair_before(a: &[u32], i: usize, b: &[u32], j: usize) -> bool
+    requires { ⌜ (i + 2 ≤ length (now a)) × (j + 2 ≤ length (now b)) ⌝ }
+    ensures { λ r. ⌜ r ≡ before (take 2 (drop i (now (a .entry)))) (take 2 (drop j (now (b .entry)))) ⌝ }
+{
+    let p = a[i];
+    let q = a[i + 1];
+    let other_p = b[j];
+    let other_q = b[j + 1];
+    if p != other_p {
+        return p < other_p;
+    }
+    q < other_q
+}
+
 // Whether the row of `a` at `i` stands before the row of `b` at `j`, by their keys.
 pub fn stands_before(a: &[u32], i: usize, b: &[u32], j: usize, w: usize) -> bool
     requires { ⌜ (3 < w) × (i + w ≤ length (now a)) × (j + w ≤ length (now b)) ⌝ }
@@ -22,12 +37,7 @@ pub fn stands_before(a: &[u32], i: usize, b: &[u32], j: usize, w: usize) -> bool
         }
         k += 1;
     }
-    let x = a[i];
-    let y = b[j];
-    if x != y {
-        return x < y;
-    }
-    a[i + 1] < b[j + 1]
+    pair_before(a, i, b, j)
 }
 
 // The slot of `row` among the `n` rows kept in `out`, by halves.

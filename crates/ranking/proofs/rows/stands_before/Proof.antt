@@ -14,7 +14,7 @@ abbrev μ-loop : tie.MeasureT-loop
 μ-loop a i b j w k₀ k = w - k
 
 loop-holds : tie.Need-loop-holds Inv-loop μ-loop
-loop-holds c = (omega arith, omega arith, laws.left-all (c .args .w) (c .args .i) (c .args .j) (c .args .a .now) (c .args .b .now))
+loop-holds c = let g = c .before .before .args in (omega arith, omega arith, laws.left-all (g .w) (g .i) (g .j) (g .a .now) (g .b .now))
 
 add-x : tie.Need-add-x Inv-loop μ-loop
 add-x c = search needs
@@ -35,7 +35,7 @@ shared-slice-read-y : tie.Need-shared-slice-read-y Inv-loop μ-loop
 shared-slice-read-y c = search needs
 
 returns : tie.Need-returns Inv-loop μ-loop
-returns c = laws.left-differ _ _ _ _ _ _ (c .before .before .before .before .before .pre) (c .before .before .before .before .loop .inv .2) (omega arith) (c .if1 .taken)
+returns c = laws.left-differ _ _ _ _ _ _ (c .before .before .before .before .before .before .before .pre) (c .before .before .before .before .loop .inv .2) (omega arith) (c .if1 .taken)
 
 add-k : tie.Need-add-k Inv-loop μ-loop
 add-k c = search needs
@@ -44,43 +44,13 @@ loop-less : tie.Need-loop-less Inv-loop μ-loop
 loop-less c = search needs
 
 loop-again : tie.Need-loop-again Inv-loop μ-loop
-loop-again c = (omega arith, omega arith, laws.left-more _ _ _ _ _ _ (c .before .before .before .before .before .pre) (c .before .before .before .before .loop .inv .2) (omega arith) (c .if1 .left))
+loop-again c = (omega arith, omega arith, laws.left-more _ _ _ _ _ _ (c .before .before .before .before .before .before .before .pre) (c .before .before .before .before .loop .inv .2) (omega arith) (c .if1 .left))
 
-mul-x-2 : tie.Need-mul-x-2 Inv-loop μ-loop
-mul-x-2 c = search needs
-
-shared-slice-read-x-2 : tie.Need-shared-slice-read-x-2 Inv-loop μ-loop
-shared-slice-read-x-2 c = search needs
-
-mul-y-2 : tie.Need-mul-y-2 Inv-loop μ-loop
-mul-y-2 c = search needs
-
-shared-slice-read-y-2 : tie.Need-shared-slice-read-y-2 Inv-loop μ-loop
-shared-slice-read-y-2 c = search needs
+pair-before-requires : tie.Need-pair-before-requires Inv-loop μ-loop
+pair-before-requires c κs = search needs
 
 returns-2 : tie.Need-returns-2 Inv-loop μ-loop
-returns-2 c = laws.end-differ _ _ _ _ _ _ (c .before .before .before .before .before .pre) (c .before .before .before .before .loop .inv .2) (omega arith) (c .if2 .taken)
-
-add-result : tie.Need-add-result Inv-loop μ-loop
-add-result c = search needs
-
-mul-result : tie.Need-mul-result Inv-loop μ-loop
-mul-result c = search needs
-
-shared-slice-read-result : tie.Need-shared-slice-read-result Inv-loop μ-loop
-shared-slice-read-result c = search needs
-
-add-result-2 : tie.Need-add-result-2 Inv-loop μ-loop
-add-result-2 c = search needs
-
-mul-result-2 : tie.Need-mul-result-2 Inv-loop μ-loop
-mul-result-2 c = search needs
-
-shared-slice-read-result-2 : tie.Need-shared-slice-read-result-2 Inv-loop μ-loop
-shared-slice-read-result-2 c = search needs
-
-returns-3 : tie.Need-returns-3 Inv-loop μ-loop
-returns-3 c = laws.end-same _ _ _ _ _ _ (c .before .before .before .before .before .before .before .pre) (c .before .before .before .before .before .before .loop .inv .2) (omega arith) (c .before .before .if2 .left)
+returns-2 c = laws.end-done _ _ _ _ _ (c .before .before .loop .k) (c .before .before .before .before .before .pre) (c .before .before .loop .inv .2) (omega arith) (c .pair-before .ensures)
 
 pub stands-before-spec : {M : Type 1} → statement M
 stands-before-spec =
@@ -99,15 +69,5 @@ stands-before-spec =
     add-k
     loop-less
     loop-again
-    mul-x-2
-    shared-slice-read-x-2
-    mul-y-2
-    shared-slice-read-y-2
-    returns-2
-    add-result
-    mul-result
-    shared-slice-read-result
-    add-result-2
-    mul-result-2
-    shared-slice-read-result-2
-    returns-3)
+    pair-before-requires
+    returns-2)
