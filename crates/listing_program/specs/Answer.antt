@@ -55,12 +55,13 @@ second-not a b l value n f e = go (a .applies) refl
     go true k = absurd (let v : NoPage (a .refusal) ≡ Page n f = rw (k, unless) at e in let z : _≡_ {A = ℕ} 0 1 = cc in omega arith)
     go false k = rest (b .applies) refl (rw (k, unless) at e)
 
-pub page-top : (r : PageRequest) (s : List ℕ) (n : ℕ) (f : Bool) → pageAnswer r s ≡ Page n f → 1 ≤ r .top
+pub page-top : (r : PageRequest) (s : List ℕ) (n : ℕ) (f : Bool) → pageAnswer r s ≡ Page n f → (1 ≤ r .top) × (r .top ≤ 8)
 unfolding pageAnswer paging
 page-top r s n f e =
     let degree = situation (not (lawfulDegree (r .degree))) WrongDegree in
     let top = situation (not (lawfulTop (r .top))) WrongDimension in
     let rest = positionSituations (r .degree) (r .position) ++ situation (ltb (length s) (rowWidth (r .top))) ShortSlice ∷ [] in
     let lawful = not-false (lawfulTop (r .top)) (second-not degree top rest (Page (length (pageRows r s)) (furtherRow r s)) n f e) in
-    let low = leb-true 3 (r .top) (and-eq-true-iff (leb 3 (r .top)) (leb (r .top) 8) .0 lawful .0) in
-    omega arith
+    let both = and-eq-true-iff (leb 3 (r .top)) (leb (r .top) 8) .0 lawful in
+    let low = leb-true 3 (r .top) (both .0) in
+    (omega arith, leb-true (r .top) 8 (both .1))

@@ -2,3 +2,4 @@
 pub mod Answer
 pub mod Decision
 pub mod Parts
+pub mod Room

@@ -1,6 +1,9 @@
 // The text, written to standard output. A buffer keeps more room than any line takes.
+ghost use mathlib.Core.Path.{_≡_};
 ghost use Prim.Native.Nat.{_*_, _+_, _≤_, _<_};
 ghost use lib.ListN.{length};
+ghost use Rattle.listing.specs.Place.{over};
+ghost use Rattle.listing_program.specs.Room.{freeFrom, stepText};
 use libc::STDOUT_FILENO;
 use listing::printing::put_due;
 
@@ -46,7 +49,7 @@ pub fn print_total(rows: u32) {
 // Where the buffer is nearly full, its text is written and the buffer starts again.
 fn make_room(text: &[u8], at: usize) -> usize
     requires { ⌜ at ≤ length (now text) ⌝ }
-    ensures { λ r. ⌜ r ≤ length (now (text .entry)) ⌝ }
+    ensures { λ r. ⌜ r ≡ freeFrom at ⌝ }
 {
     if at < 3584 {
         return at;
@@ -55,11 +58,15 @@ fn make_room(text: &[u8], at: usize) -> usize
     0
 }
 
-// A row, and the line of its page where that ends.
+// A row, and the line of its page where that ends: both fit behind the place that is free.
 fn put_step(text: &mut [u8], at: usize, row: &[u32], size: u32, done: u32, further: bool) -> usize
+    requires { ⌜ length (now text) ≡ 4096 ⌝ }
     requires { ⌜ at ≤ length (now text) ⌝ }
+    requires { ⌜ length (now row) ≤ 9 ⌝ }
     requires { ⌜ 1 ≤ size ⌝ }
     requires { ⌜ done < 4000000000 ⌝ }
+    ensures { λ r. ⌜ r ≡ freeFrom at + length (stepText size done further (now (row .entry))) ⌝ }
+    ensures { λ _. ⌜ now (text .exit) ≡ over (freeFrom at) (stepText size done further (now (row .entry))) (now (text .entry)) ⌝ }
     ensures { λ r. ⌜ r ≤ length (now (text .exit)) ⌝ }
 {
     let place = make_room(text, at);
@@ -69,6 +76,7 @@ fn put_step(text: &mut [u8], at: usize, row: &[u32], size: u32, done: u32, furth
 
 // The rows of one page that was asked for, behind `done` rows printed before; `further` says that the list goes on behind them.
 pub fn print_rows(rows: &[u32], width: usize, count: usize, size: u32, done: u32, further: bool)
+    requires { ⌜ width ≤ 9 ⌝ }
     requires { ⌜ count * width ≤ length (now rows) ⌝ }
     requires { ⌜ 1 ≤ size ⌝ }
     requires { ⌜ done + count < 4000000000 ⌝ }

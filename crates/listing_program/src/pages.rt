@@ -80,6 +80,7 @@ fn print_pages(rows: &mut [u32], degree: u32, top: u32, size: u32, count: usize,
     requires { ⌜ 1 ≤ size ⌝ }
     requires { ⌜ length (now rows) ≤ 36864 ⌝ }
     requires { ⌜ count * (top + 1) ≤ length (now rows) ⌝ }
+    requires { ⌜ top ≤ 8 ⌝ }
 {
     print_header(degree, top);
     if count == 0 {

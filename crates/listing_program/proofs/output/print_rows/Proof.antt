@@ -1,16 +1,17 @@
 -- `listing_program::output::print_rows` is safe and ends. The invariant: the place is within the buffer, which stays as long as it was.
 -- The measure is how many rows are left. Assumes nothing.
+use mathlib.Core.Path.{_≡_, sym, _∙_}
 use Prim.Native.Nat.{_+_, _-_, _*_, _≤_}
 use native.Mathlib.Omega.{arith}
 use denote.Ref.{now}
 use lib.ListN.{length}
 use borrow.Author.Needs.{needs}
-use Rattle.listing_program.specs.Parts.{row-within}
+use Rattle.listing_program.specs.Parts.{row-within, row-wide}
 use Rattle.listing_program.proofs.output.print_rows.Statement.{statement}
 use Rattle.listing_program.proofs.output.print_rows.Tie as tie
 
 abbrev Inv-loop : tie.InvT-loop
-Inv-loop rows width count size done further text₀ at₀ i₀ text at i = (i ≤ count) × (at ≤ length text)
+Inv-loop rows width count size done further text₀ at₀ i₀ text at i = (i ≤ count) × (at ≤ length text) × (length text ≡ 4096)
 
 abbrev μ-loop : tie.MeasureT-loop
 μ-loop rows width count size done further text₀ at₀ i₀ text at i = count - i
@@ -20,7 +21,7 @@ inside : (c : tie.In-loop Inv-loop μ-loop) → let a = c .before .before .befor
 inside c =
     let start = c .before .before .before .before .before in
     let a = start .args in
-    row-within (c .before .loop .i) (a .count) (a .width) (length (now (a .rows))) (c .loop-test .taken) (start .pre .0)
+    row-within (c .before .loop .i) (a .count) (a .width) (length (now (a .rows))) (c .loop-test .taken) (start .pre .1 .0)
 
 buffer-requires : tie.Need-buffer-requires Inv-loop μ-loop
 buffer-requires c κs = search needs
@@ -29,7 +30,7 @@ slice-aggregate-text : tie.Need-slice-aggregate-text Inv-loop μ-loop
 slice-aggregate-text c = search needs
 
 loop-holds : tie.Need-loop-holds Inv-loop μ-loop
-loop-holds c = (omega arith, omega arith)
+loop-holds c = (omega arith, omega arith, sym (c .before .buffer .ensures))
 
 mul-from : tie.Need-mul-from Inv-loop μ-loop
 mul-from c = omega (arith, inside c)
@@ -59,7 +60,11 @@ add-put-step-2 : tie.Need-add-put-step-2 Inv-loop μ-loop
 add-put-step-2 c = search needs
 
 put-step-requires : tie.Need-put-step-requires Inv-loop μ-loop
-put-step-requires c κs = omega arith
+put-step-requires c κs =
+    let here = c .before .before .before .before .loop in
+    let start = c .before .before .before .before .before .before .before .before in
+    let a = start .args in
+    (here .inv .2, (here .inv .1, (row-wide (here .i) (a .width) 9 (now (a .rows)) (start .pre .0), (start .pre .1 .1 .0, omega arith))))
 
 add-i : tie.Need-add-i Inv-loop μ-loop
 add-i c = omega arith
@@ -68,7 +73,10 @@ loop-less : tie.Need-loop-less Inv-loop μ-loop
 loop-less c = omega arith
 
 loop-again : tie.Need-loop-again Inv-loop μ-loop
-loop-again c = (omega arith, c .before .before .put-step .ensures)
+loop-again c =
+    let stepped = c .before .before in
+    let here = stepped .before .before .before .before .before .loop in
+    (omega arith, stepped .put-step .ensures .1 .1, stepped .put-step .kept .0 ∙ here .inv .2)
 
 show-requires : tie.Need-show-requires Inv-loop μ-loop
 show-requires c κs = c .before .before .loop .inv .1

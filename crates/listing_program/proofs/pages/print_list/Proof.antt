@@ -30,7 +30,8 @@ print-pages-requires c κs =
     let n = c .before .answer2 .given .0 .0 in
     let f = c .before .answer2 .given .0 .1 .0 in
     let given = sym (called .page .ensures .0) ∙ c .before .answer2 .given .1 in
-    (page-top _ _ n f given, (called .before .before .before .pre, (omega arith, omega (arith, called .page .kept, page-fits _ _ n f given))))
+    let top = page-top _ _ n f given in
+    (top .0, (called .before .before .before .pre, (omega arith, (omega (arith, called .page .kept, page-fits _ _ n f given), top .1))))
 
 returns : tie.Need-returns
 returns c = search needs

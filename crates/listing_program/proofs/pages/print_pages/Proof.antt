@@ -48,22 +48,22 @@ print-rows-requires : tie.Need-print-rows-requires Inv-loop μ-loop
 print-rows-requires c κs =
     let start = c .before .before .before .before in
     let a = start .args in
-    let small = few (a .top) (a .count) (length (now (a .rows))) (start .pre .1 .1 .1) (start .pre .1 .1 .0) in
-    (start .pre .1 .1 .1, (start .pre .1 .0, omega arith))
+    let small = few (a .top) (a .count) (length (now (a .rows))) (start .pre .1 .1 .1 .0) (start .pre .1 .1 .0) in
+    (omega (arith, start .pre .1 .1 .1 .1), (start .pre .1 .1 .1 .0, (start .pre .1 .0, omega arith)))
 
 cast-done : tie.Need-cast-done Inv-loop μ-loop
 cast-done c =
     let start = c .before .before .before .before .before in
     let a = start .args in
-    let small = few (a .top) (a .count) (length (now (a .rows))) (start .pre .1 .1 .1) (start .pre .1 .1 .0) in
+    let small = few (a .top) (a .count) (length (now (a .rows))) (start .pre .1 .1 .1 .0) (start .pre .1 .1 .0) in
     omega arith
 
 loop-holds : tie.Need-loop-holds Inv-loop μ-loop
 loop-holds c =
     let start = c .before .before .before .before .before in
     let a = start .args in
-    let small = few (a .top) (a .count) (length (now (a .rows))) (start .pre .1 .1 .1) (start .pre .1 .1 .0) in
-    (refl, start .pre .1 .1 .1, omega arith)
+    let small = few (a .top) (a .count) (length (now (a .rows))) (start .pre .1 .1 .1 .0) (start .pre .1 .1 .0) in
+    (refl, start .pre .1 .1 .1 .0, omega arith)
 
 next-part-requires : tie.Need-next-part-requires Inv-loop μ-loop
 next-part-requires c κs =
@@ -74,7 +74,7 @@ print-rows-requires-2 : tie.Need-print-rows-requires-2 Inv-loop μ-loop
 print-rows-requires-2 c κs =
     let called = c .before .before .before in
     let start = called .before .before .before .before .before .before .before .before .before .before .before in
-    (called .next-part .ensures, (start .pre .1 .0, omega (arith, part called .1, turn (called .before) .1)))
+    (omega (arith, start .pre .1 .1 .1 .1), (called .next-part .ensures, (start .pre .1 .0, omega (arith, part called .1, turn (called .before) .1))))
 
 cast-done-2 : tie.Need-cast-done-2 Inv-loop μ-loop
 cast-done-2 c = omega (arith, part (c .before .before .before .before) .1)
