@@ -3,7 +3,7 @@
 use mathlib.Core.Path.{_≡_, refl, sym, ap, ap₂, _∙_}
 use mathlib.Core.Bool.{Bool, true, false}
 use mathlib.Core.List.{List, [], _∷_, _++_, append-assoc}
-use Prim.Native.Nat.{ℕ, zero, suc, _+_, _-_, _*_, _≤_, _<_}
+use Prim.Native.Nat.{ℕ, suc, _+_, _-_, _*_, _≤_, _<_}
 use native.Mathlib.Nat.{suc-add, suc-mul, add-zero, mul-le-mul-right}
 use native.Mathlib.Numerals.{add-one}
 use native.Mathlib.Omega.{arith}
@@ -12,7 +12,8 @@ use lib.ListN.{length, take, drop, getD, set, length-drop, List·getD-append, ta
 use lib.Seq.{take-suc, drop-cons, set-at, slice, slice-empty, slice-cons, append-snoc, getD-take, getD-drop, length-take-le, paste, paste-suc, take-append-le, take-take, drop-at}
 use Rattle.definitions.specs.Pages.{before}
 use Rattle.definitions.specs.Ranking.{rowKey}
-use Rattle.page_laws.specs.Key.{before-same, before-differ, before-single}
+use Rattle.page_laws.specs.Key.{before-same, before-differ, before-single, before-prefix, before-asym, before-total, before-after-same}
+use Rattle.insertion.specs.Ranks.{ranksOf}
 use Rattle.page_laws.specs.Slot.{slot, slot-most, slot-up, slot-down, Ordered}
 use Rattle.page_laws.specs.Rows.{rowsOf, row-at, length-rows, shifted, spliced, inserted, inserted-more, inserted-full, inserted-none, Kept}
 
@@ -80,54 +81,44 @@ module _ (from to w : ℕ) (row s : List ℕ) (l : from ≤ to) (h : to + w ≤ 
   pub splice-done : {t out : List ℕ} → t ≡ shifted from to w s → out ≡ paste t from row w → out ≡ spliced from to w (take w row) s
   splice-done e f = f ∙ ap (λ (t : List ℕ). paste t from row w) e ∙ shifted-paste
 
--- ---- comparing two rows: the key from place k on
+-- ---- comparing t-values from place k on
 
-unfoldable pub keyFrom : ℕ → List ℕ → List ℕ
-keyFrom k r = drop k r ++ take 2 r
-
-module _ (w i : ℕ) (a : List ℕ) (h : i + w ≤ length a) where
-  length-row : length (take w (drop i a)) ≡ w
-  length-row = length-take-le w (drop i a) (omega (arith, length-drop i a))
-
-  number-at : (k : ℕ) → k < w → getD (take w (drop i a)) k 0 ≡ getD a (i + k) 0
-  number-at k l = getD-take w (drop i a) k 0 l ∙ getD-drop i a k 0
-
-  key-cons : (k : ℕ) → k < w → keyFrom k (take w (drop i a)) ≡ getD a (i + k) 0 ∷ keyFrom (k + 1) (take w (drop i a))
-  unfolding keyFrom
-  key-cons k l =
-      ap (λ (t : List ℕ). t ++ take 2 (take w (drop i a)))
-      (drop-cons (take w (drop i a)) k 0 (omega (arith, length-row)) ∙ ap₂ (λ (x n : ℕ). x ∷ drop n (take w (drop i a))) (number-at k l) (sym (add-one k)))
-
-  key-end : (k : ℕ) → w ≤ k → 3 < w → keyFrom k (take w (drop i a)) ≡ take 2 (drop i a)
-  unfolding keyFrom
-  key-end k e l =
-      ap₂ (λ (t u : List ℕ). t ++ u) (drop-of-length-le (take w (drop i a)) {i = k} (omega (arith, length-row))) (take-take 2 w (drop i a) (omega arith))
-
--- The two keys compare as what is left of them from place k on.
+-- The t-values compare as what is left of them from place k on.
 abbrev pub Left : ℕ → ℕ → List ℕ → ℕ → List ℕ → ℕ → Type 0
-Left w i a j b k =
-    before (rowKey (take w (drop i a))) (rowKey (take w (drop j b))) ≡ before (keyFrom k (take w (drop i a))) (keyFrom k (take w (drop j b)))
+Left s i a j b k = before (ranksOf s (drop i a)) (ranksOf s (drop j b)) ≡ before (drop k (take s (drop i a))) (drop k (take s (drop j b)))
 
-module _ (w i j : ℕ) (a b : List ℕ) where
-  abbrev keys : Bool
-  keys = before (rowKey (take w (drop i a))) (rowKey (take w (drop j b)))
+module _ (s i : ℕ) (a : List ℕ) (h : i + s ≤ length a) where
+  length-front : length (take s (drop i a)) ≡ s
+  length-front = length-take-le s (drop i a) (omega (arith, length-drop i a))
 
-  pub left-all : Left w i a j b 3
-  unfolding rowKey keyFrom
+  front-cons : (k : ℕ) → k < s → drop k (take s (drop i a)) ≡ getD a (i + k) 0 ∷ drop (k + 1) (take s (drop i a))
+  front-cons k l =
+      drop-cons (take s (drop i a)) k 0 (omega (arith, length-front))
+      ∙ ap₂ (λ (x n : ℕ). x ∷ drop n (take s (drop i a))) (getD-take s (drop i a) k 0 l ∙ getD-drop i a k 0) (sym (add-one k))
+
+  front-end : (k : ℕ) → s ≤ k → drop k (take s (drop i a)) ≡ []
+  front-end k e = drop-of-length-le (take s (drop i a)) {i = k} (omega (arith, length-front))
+
+module _ (s i j : ℕ) (a b : List ℕ) where
+  pub left-all : Left s i a j b 3
+  unfolding ranksOf
   left-all = refl
 
-  module _ (k : ℕ) (pre : (3 < w) × (i + w ≤ length a) × (j + w ≤ length b)) (inv : Left w i a j b k) where
-    heads : k < w → keys ≡ before (getD a (i + k) 0 ∷ keyFrom (k + 1) (take w (drop i a))) (getD b (j + k) 0 ∷ keyFrom (k + 1) (take w (drop j b)))
-    heads l = inv ∙ ap₂ before (key-cons w i a (pre .1) k l) (key-cons w j b (pre .2) k l)
+  module _ (k : ℕ) (pre : (3 ≤ s) × (i + s ≤ length a) × (j + s ≤ length b)) (inv : Left s i a j b k) where
+    heads : k < s → before (ranksOf s (drop i a)) (ranksOf s (drop j b))
+        ≡ before (getD a (i + k) 0 ∷ drop (k + 1) (take s (drop i a))) (getD b (j + k) 0 ∷ drop (k + 1) (take s (drop j b)))
+    heads l = inv ∙ ap₂ before (front-cons s i a (pre .1) k l) (front-cons s j b (pre .2) k l)
 
-    pub left-differ : k < w → (getD a (i + k) 0 ≡ getD b (j + k) 0 → ⊥) → ltb (getD a (i + k) 0) (getD b (j + k) 0) ≡ keys
+    pub left-differ : k < s → (getD a (i + k) 0 ≡ getD b (j + k) 0 → ⊥)
+        → ltb (getD a (i + k) 0) (getD b (j + k) 0) ≡ before (ranksOf s (drop i a)) (ranksOf s (drop j b))
     left-differ l n = sym (heads l ∙ before-differ _ _ _ _ n)
 
-    pub left-more : k < w → getD a (i + k) 0 ≡ getD b (j + k) 0 → Left w i a j b (k + 1)
+    pub left-more : k < s → getD a (i + k) 0 ≡ getD b (j + k) 0 → Left s i a j b (k + 1)
     left-more l e = heads l ∙ before-same _ _ _ _ e
 
-    pub end-done : {r : Bool} → w ≤ k → r ≡ before (take 2 (drop i a)) (take 2 (drop j b)) → r ≡ keys
-    end-done l e = e ∙ sym (inv ∙ ap₂ before (key-end w i a (pre .1) k l (pre .0)) (key-end w j b (pre .2) k l (pre .0)))
+    pub left-none : s ≤ k → false ≡ before (ranksOf s (drop i a)) (ranksOf s (drop j b))
+    unfolding before
+    left-none l = sym (inv ∙ ap₂ before (front-end s i a (pre .1) k l) (front-end s j b (pre .2) k l))
 
 -- ---- comparing two pairs
 
@@ -147,6 +138,45 @@ module _ (i j : ℕ) (a b : List ℕ) (pre : (i + 2 ≤ length a) × (j + 2 ≤ 
 
   pub pair-same : getD a i 0 ≡ getD b j 0 → ltb (getD a (i + 1) 0) (getD b (j + 1) 0) ≡ before (take 2 (drop i a)) (take 2 (drop j b))
   pair-same e = sym (pairs ∙ before-same _ _ _ _ e ∙ before-single _ _)
+
+-- ---- comparing two rows: by t-values, then by pairs
+
+module _ (w i j : ℕ) (a b : List ℕ) (pre : (3 < w) × (i + w ≤ length a) × (j + w ≤ length b)) where
+  abbrev keys : Bool
+  keys = before (rowKey (take w (drop i a))) (rowKey (take w (drop j b)))
+
+  key-parts : (k : ℕ) (l : List ℕ) → rowKey (take w (drop k l)) ≡ ranksOf w (drop k l) ++ take 2 (drop k l)
+  unfolding rowKey ranksOf
+  key-parts k l = ap (λ (t : List ℕ). drop 3 (take w (drop k l)) ++ t) (take-take 2 w (drop k l) (omega (arith, pre .0)))
+
+  same-length : length (ranksOf w (drop i a)) ≡ length (ranksOf w (drop j b))
+  unfolding ranksOf
+  same-length = omega (
+    arith,
+    length-drop 3 (take w (drop i a)),
+    length-drop 3 (take w (drop j b)),
+    length-front w i a (pre .1),
+    length-front w j b (pre .2),
+  )
+
+  pub ranks-first : before (ranksOf w (drop i a)) (ranksOf w (drop j b)) ≡ true → true ≡ keys
+  ranks-first t =
+      sym (ap₂ before (key-parts i a) (key-parts j b)
+      ∙ before-prefix (ranksOf w (drop i a)) (ranksOf w (drop j b)) (take 2 (drop i a)) (take 2 (drop j b)) same-length t)
+
+  pub ranks-second : before (ranksOf w (drop j b)) (ranksOf w (drop i a)) ≡ true → false ≡ keys
+  ranks-second t =
+      sym (before-asym (rowKey (take w (drop j b))) (rowKey (take w (drop i a)))
+      (ap₂ before (key-parts j b) (key-parts i a)
+      ∙ before-prefix (ranksOf w (drop j b)) (ranksOf w (drop i a)) (take 2 (drop j b)) (take 2 (drop i a)) (sym same-length) t))
+
+  pub ranks-same : {r : Bool} → before (ranksOf w (drop i a)) (ranksOf w (drop j b)) ≡ false → before (ranksOf w (drop j b)) (ranksOf w (drop i a)) ≡ false
+      → r ≡ before (take 2 (drop i a)) (take 2 (drop j b)) → r ≡ keys
+  ranks-same e f g =
+      let same : ranksOf w (drop i a) ≡ ranksOf w (drop j b) = before-total (ranksOf w (drop i a)) (ranksOf w (drop j b)) e f in
+      g
+      ∙ sym (ap₂ before (key-parts i a ∙ ap (λ (t : List ℕ). t ++ take 2 (drop i a)) same) (key-parts j b)
+      ∙ before-after-same (ranksOf w (drop j b)) (take 2 (drop i a)) (take 2 (drop j b)))
 
 -- ---- the slot by halves
 

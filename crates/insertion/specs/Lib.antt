@@ -1,1 +1,2 @@
--- The contracts of this crate cite definitions and page_laws alone.
+-- What the contracts of this crate cite beside the definitions and page_laws.
+pub mod Ranks

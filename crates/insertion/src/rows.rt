@@ -7,6 +7,7 @@ ghost use Rattle.definitions.specs.Pages.{before};
 ghost use Rattle.definitions.specs.Ranking.{rowKey};
 ghost use Rattle.page_laws.specs.Slot.{slot, Ordered};
 ghost use Rattle.page_laws.specs.Rows.{rowsOf, shifted, spliced, inserted, Kept};
+ghost use Rattle.insertion.specs.Ranks.{ranksOf};
 
 // Whether the pair of the row of `a` at `i` stands before that of `b` at `j`: by p, then by q.
 fn pair_before(a: &[u32], i: usize, b: &[u32], j: usize) -> bool
@@ -23,19 +24,33 @@ fn pair_before(a: &[u32], i: usize, b: &[u32], j: usize) -> bool
     q < other_q
 }
 
-// Whether the row of `a` at `i` stands before the row of `b` at `j`, by their keys.
-pub fn stands_before(a: &[u32], i: usize, b: &[u32], j: usize, w: usize) -> bool
-    requires { ⌜ (3 < w) × (i + w ≤ length (now a)) × (j + w ≤ length (now b)) ⌝ }
-    ensures { λ r. ⌜ r ≡ before (rowKey (take w (drop i (now (a .entry))))) (rowKey (take w (drop j (now (b .entry))))) ⌝ }
+// Whether the t-values among the first `s` numbers of the row of `a` at `i` stand before those of `b` at `j`.
+pub fn ranks_before(a: &[u32], i: usize, b: &[u32], j: usize, s: usize) -> bool
+    requires { ⌜ (3 ≤ s) × (i + s ≤ length (now a)) × (j + s ≤ length (now b)) ⌝ }
+    ensures { λ r. ⌜ r ≡ before (ranksOf s (drop i (now (a .entry)))) (ranksOf s (drop j (now (b .entry)))) ⌝ }
 {
     let mut k: usize = 3;
-    while k < w {
+    while k < s {
         let x = a[i + k];
         let y = b[j + k];
         if x != y {
             return x < y;
         }
         k += 1;
+    }
+    false
+}
+
+// Whether the row of `a` at `i` stands before the row of `b` at `j`, by their keys: by their t-values, and where these are the same by their pairs.
+pub fn stands_before(a: &[u32], i: usize, b: &[u32], j: usize, w: usize) -> bool
+    requires { ⌜ (3 < w) × (i + w ≤ length (now a)) × (j + w ≤ length (now b)) ⌝ }
+    ensures { λ r. ⌜ r ≡ before (rowKey (take w (drop i (now (a .entry))))) (rowKey (take w (drop j (now (b .entry))))) ⌝ }
+{
+    if ranks_before(a, i, b, j, w) {
+        return true;
+    }
+    if ranks_before(b, j, a, i, w) {
+        return false;
     }
     pair_before(a, i, b, j)
 }

@@ -108,6 +108,11 @@ before-prefix (c ∷ a) (d ∷ b) x y l t = go (before-heads c d a b t) (before-
     go (inl h) ih = before-less c d (a ++ x) (b ++ y) h
     go (inr h) ih = before-same c d (a ++ x) (b ++ y) (h .0) ∙ ih (h .1)
 
+-- Keys that begin with the same list compare as what follows it.
+pub before-after-same : (a x y : List ℕ) → before (a ++ x) (a ++ y) ≡ before x y
+before-after-same [] x y = refl
+before-after-same (c ∷ a) x y = before-same c c (a ++ x) (a ++ y) refl ∙ before-after-same a x y
+
 -- What stands before another is not stood before by it.
 pub before-asym : (a b : List ℕ) → before a b ≡ true → before b a ≡ false
 before-asym a b t = fails (before b a) (λ (u : before b a ≡ true). not-both (before-trans a b a t u) (before-irrefl a))

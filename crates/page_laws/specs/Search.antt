@@ -3,9 +3,9 @@
 -- insertion depend on the first cap only; and sorting forgets the order, so the order of offering does not matter. Assumes nothing.
 use mathlib.Core.Path.{_≡_, refl, sym, ap, _∙_}
 use mathlib.Core.Logic.{⊎-elim}
-use mathlib.Core.Bool.{Bool, true, false, cond}
+use mathlib.Core.Bool.{true, false, cond}
 use mathlib.Core.List.{List, [], _∷_, _++_, List·Memᴰ, List·Memᴰ·not-nil}
-use Prim.Native.Nat.{ℕ, zero, suc, _+_, _*_, _<_, _≤_}
+use Prim.Native.Nat.{ℕ, zero, suc, _+_, _*_, _≤_}
 use native.Mathlib.Nat.{mul-le-mul-right, le-trans}
 use native.Mathlib.Numerals.{add-one}
 use native.Mathlib.Omega.{arith}
@@ -15,7 +15,7 @@ use Rattle.definitions.specs.Number.{keep, putIf}
 use Rattle.definitions.specs.Pages.{before, Place, above, rest, page, insert, insertAll, sort, laid}
 use Rattle.page_laws.specs.Key.{cases}
 use Rattle.page_laws.specs.Ascending.{rest-none}
-use Rattle.page_laws.specs.Insertion.{Distinct, insert-out, length-insert, page-kept, page-left, count-kept, rest-insert-left, sort-same}
+use Rattle.page_laws.specs.Insertion.{Distinct, insert-out, page-kept, page-left, count-kept, rest-insert-left, sort-same}
 use Rattle.page_laws.specs.Slot.{Ordered, ordered-none, insert-ordered, take-ordered, take-member}
 use Rattle.page_laws.specs.Rows.{rowsOf, Wide, Kept, kept, inserted, laid-rows, laid-laid, laid-none, length-laid, rows-wide}
 

@@ -3,17 +3,17 @@
 -- what stands above the place behind a page is what the page left over. For any list that ascends by any key. Assumes nothing.
 use mathlib.Core.Path.{_≡_, refl, sym, ap, _∙_}
 use mathlib.Core.Logic.{⊎-elim}
-use mathlib.Core.Bool.{Bool, true, false}
+use mathlib.Core.Bool.{true, false}
 use mathlib.Core.List.{List, [], _∷_, _++_, append-nil}
-use Prim.Native.Nat.{ℕ, zero, suc, _+_, _<_, _≤_}
+use Prim.Native.Nat.{ℕ, zero, suc, _+_, _≤_}
 use native.Mathlib.Omega.{arith}
 use lib.ListN.{length, take, drop, length-drop, take-append-drop}
 use lib.Seq.{take-all}
 use borrow.Author.Tests.{ltb-true, ltb-false}
-use Rattle.definitions.specs.Number.{keep, join}
-use Rattle.definitions.specs.Pages.{before, Place, start, after, above, rest, page, more}
+use Rattle.definitions.specs.Number.{join}
+use Rattle.definitions.specs.Pages.{Place, start, after, above, rest, page, more}
 use Rattle.page_laws.specs.Key.{before-irrefl, cases, not-both}
-use Rattle.page_laws.specs.Ascending.{Lower, lower-after, Ascends, rest-all, rest-keep, rest-skip, rest-none, ascends-take, rest-ascends, rest-rest}
+use Rattle.page_laws.specs.Ascending.{Lower, lower-after, Ascends, rest-all, rest-skip, rest-none, ascends-take, rest-ascends, rest-rest}
 
 module _ {X : Type 0} (key : X → List ℕ) where
   -- The place after the last element received.

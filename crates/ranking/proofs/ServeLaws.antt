@@ -1,10 +1,10 @@
 -- A page from the walk: from the root of the tree nothing is found yet, and when all is walked the ranked list's page stands in the slice; a
 -- position's pair is refused as judging refuses it; and the situations of a request are these in their order. Assumes nothing.
-use mathlib.Core.Path.{_≡_, refl, sym, ap, ap₂, _∙_, subst}
+use mathlib.Core.Path.{_≡_, refl, sym, ap, ap₂, _∙_}
 use mathlib.Core.Logic.{_⊎_, inl, inr}
 use mathlib.Core.Bool.{Bool, true, false, and-eq-true-iff}
-use mathlib.Core.List.{List, [], _∷_, _++_, List·Memᴰ, append-assoc}
-use Prim.Native.Nat.{ℕ, zero, suc, _+_, _-_, _*_, _/_, _^_, _≤_, _<_}
+use mathlib.Core.List.{List, [], _∷_, _++_, append-assoc}
+use Prim.Native.Nat.{ℕ, suc, _+_, _-_, _/_, _≤_, _<_}
 use native.Mathlib.Nat.{div-mul-le-self, le-div-iff-mul-le}
 use native.Mathlib.Numerals.{add-one}
 use native.Mathlib.Omega.{arith}
@@ -14,14 +14,13 @@ use lib.ListN.{length, take, drop, set, length-set, length-drop}
 use lib.Seq.{take-at, length-take-le}
 use borrow.Rule.Slice.PartMut.{putMid, postOf, same-len-mid}
 use borrow.Author.Tests.{lt-ltb, le-ltb, leb-true}
-use Rattle.definitions.specs.Answers.{Situation, situation, unless}
+use Rattle.definitions.specs.Answers.{Situation, unless}
 use Rattle.definitions.specs.Number.{numbers}
 use Rattle.definitions.specs.Calls.{paging, positionSituations, pairSituations, pageRows, furtherRow, pageAnswer, pageSlice}
 use Rattle.definitions.specs.Honest.{unless-both}
 use Rattle.definitions.specs.Generator.{Pair, pairsBelow, tree, lawfulDegree, wellFormed, accepted, primitive, linearQuotients, coprimeStep, step}
-use Rattle.definitions.specs.Net.{tValue}
-use Rattle.definitions.specs.Pages.{Place, start, after, page, more, rest, sort, laid}
-use Rattle.definitions.specs.Ranking.{lawfulTop, leastTop, largestTop, rowWidth, row, rowKey, tValues, ranked, placeOf}
+use Rattle.definitions.specs.Pages.{Place, start, after, more}
+use Rattle.definitions.specs.Ranking.{lawfulTop, leastTop, largestTop, row, rowKey, tValues, ranked, placeOf}
 use Rattle.definitions.specs.declared.Refusal.{Refusal}
 use Rattle.definitions.specs.declared.Refusal.the-variants.{WrongDegree, WrongDimension, ShortSlice}
 use Rattle.definitions.specs.declared.Position.{Position}
@@ -31,7 +30,6 @@ use Rattle.definitions.specs.declared.Judgement.{Judgement}
 use Rattle.definitions.specs.declared.Judgement.the-variants.{Accepted, Rejected}
 use Rattle.definitions.specs.declared.PageAnswer.{PageAnswer}
 use Rattle.definitions.specs.declared.PageAnswer.the-variants.{Page, NoPage}
-use Rattle.fraction_laws.specs.WellFormed.{WellFormed, Proper, wellFormed-is}
 use Rattle.fraction_laws.specs.Walk.{root-proper}
 use Rattle.fraction_laws.specs.Tree.{tree-def}
 use Rattle.order_laws.specs.Accepted.{accepted-is}
@@ -40,10 +38,10 @@ use Rattle.page_laws.specs.Search.{Search, offerAll, found, search-page, start-
 use Rattle.ranking_laws.specs.Met.{met, met-wide, tree-ranked, tValues-length}
 use Rattle.generator.specs.Lawful.{Lawful}
 use Rattle.generator.specs.Judging.{pairJudgement, ill-formed, not-primitive, not-linear, not-coprime}
-use Rattle.search.specs.Frame.{topOf, placeIf, placeFrom, offers, Framed, Searching}
+use Rattle.search.specs.Frame.{topOf, placeIf, placeFrom, offers}
 use Rattle.search.specs.Standing.{begun}
 use Rattle.search.specs.Walk.{Ready}
-use Rattle.ranking.specs.Serve.{LawfulTop, tooShort, rowsAt, servedAnswer, servedSlice, Keyed}
+use Rattle.ranking.specs.Serve.{LawfulTop, tooShort, servedAnswer, servedSlice, Keyed}
 use Rattle.search.specs.declared.frame.Frame.{Frame}
 use Rattle.search.specs.Weighing.{write-first}
 

@@ -1,7 +1,7 @@
 -- The rows met on a walk: those of the accepted pairs of a list. A row's key ends in its pair, so rows of different pairs have different
 -- keys; the tree has each well-formed pair with linear quotients once, so on it the same rows are met as among all pairs, and sorted they
 -- are the ranked list. Assumes nothing.
-use mathlib.Core.Path.{_≡_, refl, sym, ap, ap₂, _∙_}
+use mathlib.Core.Path.{_≡_, refl, sym, ap, _∙_}
 use mathlib.Core.Bool.{Bool, true, false}
 use mathlib.Core.List.{List, [], _∷_, _++_, map, List·Memᴰ, List·Nodup, Memᴰ·map, Memᴰ·of-map, Memᴰ·cast}
 use Prim.Native.Nat.{ℕ, suc, _+_, _-_, _≤_}
@@ -9,7 +9,7 @@ use native.Mathlib.Omega.{arith}
 use lib.ListN.{length, drop}
 use lib.Seq.{drop-at}
 use Rattle.definitions.specs.Number.{numbers, keep, putIf}
-use Rattle.definitions.specs.Generator.{Pair, accepted, wellFormed, step, tree}
+use Rattle.definitions.specs.Generator.{Pair, accepted, step, tree}
 use Rattle.definitions.specs.Net.{tValue}
 use Rattle.definitions.specs.Pages.{sort}
 use Rattle.definitions.specs.Ranking.{leastTop, rowWidth, tValues, row, rowKey, allPairs, acceptedPairs, ranked}

@@ -1,12 +1,12 @@
 -- All pairs: a pair is listed exactly where it is well-formed, and once. Numbers from 2^m on are the p, numbers from 1 on the q of each p.
 -- Assumes nothing.
-use mathlib.Core.Path.{_≡_, refl, sym, ap, _∙_}
+use mathlib.Core.Path.{_≡_, sym, ap, _∙_}
 use mathlib.Core.Bool.{true}
 use mathlib.Core.List.{List, map, List·Memᴰ, List·Nodup, Memᴰ·map, Memᴰ·of-map}
 use Prim.Native.Nat.{ℕ, _-_, _^_}
 use native.Mathlib.Omega.{arith}
 use lib.Pow.{pow-pos}
-use Rattle.definitions.specs.Number.{numbers, join}
+use Rattle.definitions.specs.Number.{numbers}
 use Rattle.definitions.specs.Generator.{Pair, period, wellFormed}
 use Rattle.definitions.specs.Ranking.{allPairs}
 use Rattle.number_laws.specs.Lists.{numbers-in, numbers-out, numbers-once, map-once, join-map-in, join-map-out, join-map-once}

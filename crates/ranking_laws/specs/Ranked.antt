@@ -1,6 +1,6 @@
 -- The ranked list: it ascends strictly by key, each row has the width of T, and a row is in it exactly where its pair is well-formed and
 -- accepted, once. Sorting keeps members, and keys tell pairs apart. Assumes nothing.
-use mathlib.Core.Path.{_≡_, sym}
+use mathlib.Core.Path.{_≡_}
 use mathlib.Core.Bool.{true}
 use mathlib.Core.List.{List, List·Memᴰ, List·Nodup}
 use Prim.Native.Nat.{ℕ, _≤_}

@@ -2,20 +2,19 @@
 -- list. Each answer is a page of it (no request on the way is refused, since the last row's pair is accepted), the place after that pair is
 -- the place behind the page, and so the session is a walk through pages of a list that ascends. Assumes nothing.
 use mathlib.Core.Path.{_≡_, refl, sym, ap, ap₂, _∙_, subst}
-use mathlib.Core.Logic.{⊎-elim}
 use mathlib.Core.Bool.{Bool, true, false, and-eq-true-iff}
-use mathlib.Core.List.{List, [], _∷_, List·Memᴰ, List·Memᴰ·head, List·Memᴰ·tail, List·Memᴰ·cases-cons, Memᴰ·cast}
-use Prim.Native.Nat.{ℕ, zero, suc, _+_, _*_, _/_, _≤_, _<_}
+use mathlib.Core.List.{List, [], _∷_, List·Memᴰ, List·Memᴰ·head, List·Memᴰ·tail}
+use Prim.Native.Nat.{ℕ, suc, _+_, _/_, _≤_}
 use native.Mathlib.Nat.{le-div-iff-mul-le}
 use native.Mathlib.Omega.{arith}
-use lib.Dec.{leb, ltb}
-use lib.ListN.{length, take, getD}
+use lib.Dec.{leb}
+use lib.ListN.{length, getD}
 use lib.Seq.{length-take-le}
 use borrow.Author.Tests.{le-ltb, ltb-true, leb-true}
-use Rattle.definitions.specs.Number.{keep, join}
+use Rattle.definitions.specs.Number.{join}
 use Rattle.definitions.specs.Answers.{unless}
-use Rattle.definitions.specs.Generator.{Pair, lawfulDegree, largestDegree, leastDegree, wellFormed, primitive, linearQuotients, coprimeStep, accepted}
-use Rattle.definitions.specs.Pages.{Place, start, after, above, rest, page, more, laid}
+use Rattle.definitions.specs.Generator.{lawfulDegree, wellFormed, accepted}
+use Rattle.definitions.specs.Pages.{Place, after, above, rest, page, more, laid}
 use Rattle.definitions.specs.Ranking.{lawfulTop, leastTop, largestTop, rowWidth, row, rowKey, ranked, placeOf}
 use Rattle.definitions.specs.Calls.{paging, positionSituations, pairSituations, pageRows, furtherRow, pageAnswer, pageSlice}
 use Rattle.definitions.specs.Honest.{unless-both}
@@ -23,12 +22,11 @@ use Rattle.definitions.specs.declared.Refusal.{Refusal}
 use Rattle.definitions.specs.declared.Position.{Position}
 use Rattle.definitions.specs.declared.Position.the-variants.{Start, After}
 use Rattle.definitions.specs.declared.PageRequest.{PageRequest}
-use Rattle.definitions.specs.declared.PageAnswer.{PageAnswer}
 use Rattle.definitions.specs.declared.PageAnswer.the-variants.{Page, NoPage}
 use Rattle.number_laws.specs.Lists.{keep-out}
 use Rattle.order_laws.specs.Accepted.{accepted-is}
 use Rattle.page_laws.specs.Slot.{take-member}
-use Rattle.page_laws.specs.Rows.{rowsOf, laid-rows, Wide}
+use Rattle.page_laws.specs.Rows.{rowsOf, laid-rows}
 use Rattle.page_laws.specs.Search.{wide-page}
 use Rattle.page_laws.specs.Walk.{behind, Walk, ends, goes, walk-ends, walk-whole}
 use Rattle.ranking_laws.specs.Met.{row-def}

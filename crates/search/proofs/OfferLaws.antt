@@ -6,13 +6,13 @@ use mathlib.Core.List.{List, [], _∷_, _++_, map}
 use Prim.Native.Nat.{ℕ, suc, _+_, _-_, _*_, _≤_, _<_}
 use native.Mathlib.Nat.{mul-le-mul-right, le-trans}
 use native.Mathlib.Omega.{arith}
-use lib.ListN.{length, take, drop, set, length-set}
+use lib.ListN.{length, take, set}
 use lib.Seq.{take-set-lt}
 use Rattle.definitions.specs.Number.{numbers}
 use Rattle.definitions.specs.Generator.{Pair, primitive, linearQuotients, coprimeStep, accepted, step}
 use Rattle.definitions.specs.Net.{tValue}
-use Rattle.definitions.specs.Pages.{before, above, start, after}
-use Rattle.definitions.specs.Ranking.{leastTop, row, rowKey, tValues}
+use Rattle.definitions.specs.Pages.{before, above, after}
+use Rattle.definitions.specs.Ranking.{leastTop, rowKey, tValues}
 use Rattle.order_laws.specs.Accepted.{accepted-is}
 use Rattle.page_laws.specs.Key.{fails, not-both}
 use Rattle.page_laws.specs.Ascending.{above-start, above-after}
@@ -20,7 +20,7 @@ use Rattle.page_laws.specs.Slot.{slot, slot-by-key, slot-most}
 use Rattle.page_laws.specs.Rows.{rowsOf, length-rows, Kept, inserted, inserted-none}
 use Rattle.page_laws.specs.Search.{Search, counted, offered-kept, offered-left, offer-one, offer-none}
 use Rattle.ranking_laws.specs.Met.{met, met-none, met-more, met-less, row-def, row-key}
-use Rattle.search.specs.Frame.{topOf, placeIf, placeFrom, offers, offer, Framed, Searching, Keeping}
+use Rattle.search.specs.Frame.{topOf, placeIf, placeFrom, offers, offer, Searching, Keeping}
 use Rattle.search.specs.Standing.{begun, Begun, rowIn, Weighed}
 use Rattle.search.specs.declared.frame.Frame.{Frame}
 use Rattle.search.specs.declared.rank.Standing.{Standing}

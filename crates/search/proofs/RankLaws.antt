@@ -5,67 +5,29 @@ use mathlib.Core.Path.{_≡_, refl, sym, ap, ap₂, _∙_}
 use mathlib.Core.Bool.{Bool, true, false, _&&_, and-eq-true-iff}
 use mathlib.Core.List.{List, [], _∷_, _++_, map, append-assoc}
 use Prim.Native.Nat.{ℕ, zero, suc, _+_, _-_, _*_, _≤_, _<_}
-use native.Mathlib.Nat.{mul-le-mul-right, suc-mul}
+use native.Mathlib.Nat.{suc-mul}
 use native.Mathlib.Numerals.{add-one}
 use native.Mathlib.Omega.{arith}
-use lib.Dec.{ltb, eqb}
-use lib.ListN.{length, take, drop, getD, set, length-drop, length-set, drop-of-length-le}
-use lib.Seq.{drop-cons, getD-take, getD-drop, length-take-le, take-add, take-all, drop-append-le, take-suc-set}
-use borrow.Author.Tests.{eqb-true, eq-eqb}
+use lib.Dec.{eqb}
+use lib.ListN.{length, take, drop, getD, set, length-drop}
+use lib.Seq.{length-take-le, take-add, take-all, drop-append-le, take-suc-set}
+use borrow.Author.Tests.{eqb-true}
 use Rattle.definitions.specs.Number.{numbers}
 use Rattle.definitions.specs.Net.{tValue}
 use Rattle.definitions.specs.Pages.{before, above, after}
-use Rattle.definitions.specs.Ranking.{leastTop, rowKey, tValues}
-use Rattle.page_laws.specs.Key.{before-same, before-differ, before-prefix, before-asym}
+use Rattle.definitions.specs.Ranking.{leastTop, rowKey}
+use Rattle.page_laws.specs.Key.{before-prefix, before-asym}
 use Rattle.page_laws.specs.Ascending.{above-after, lower-after}
-use Rattle.page_laws.specs.Slot.{slot, slot-up, getD-member}
+use Rattle.page_laws.specs.Slot.{slot-up, getD-member}
 use Rattle.page_laws.specs.Rows.{rowsOf, row-at, length-rows}
 use Rattle.page_laws.specs.Search.{Search}
 use Rattle.ranking_laws.specs.Met.{row-def, row-length}
-use Rattle.search.specs.Frame.{topOf, placeIf, placeFrom, Framed, Searching}
-use Rattle.search.specs.Standing.{ranksOf, begun, Begun, rowIn, Weighed}
+use Rattle.search.specs.Frame.{topOf, placeIf, placeFrom, Searching}
+use Rattle.insertion.specs.Ranks.{ranksOf}
+use Rattle.search.specs.Standing.{begun, rowIn, Weighed}
 use Rattle.search.specs.declared.frame.Frame.{Frame}
 use Rattle.search.specs.declared.rank.Standing.the-variants.{Low, High, Open}
 use Rattle.search.proofs.OfferLaws.{t-values-in}
-
--- ---- comparing t-values from place k on
-
--- The t-values compare as what is left of them from place k on.
-abbrev pub Left : ℕ → ℕ → List ℕ → ℕ → List ℕ → ℕ → Type 0
-Left s i a j b k = before (ranksOf s (drop i a)) (ranksOf s (drop j b)) ≡ before (drop k (take s (drop i a))) (drop k (take s (drop j b)))
-
-module _ (s i : ℕ) (a : List ℕ) (h : i + s ≤ length a) where
-  length-front : length (take s (drop i a)) ≡ s
-  length-front = length-take-le s (drop i a) (omega (arith, length-drop i a))
-
-  front-cons : (k : ℕ) → k < s → drop k (take s (drop i a)) ≡ getD a (i + k) 0 ∷ drop (k + 1) (take s (drop i a))
-  front-cons k l =
-      drop-cons (take s (drop i a)) k 0 (omega (arith, length-front))
-      ∙ ap₂ (λ (x n : ℕ). x ∷ drop n (take s (drop i a))) (getD-take s (drop i a) k 0 l ∙ getD-drop i a k 0) (sym (add-one k))
-
-  front-end : (k : ℕ) → s ≤ k → drop k (take s (drop i a)) ≡ []
-  front-end k e = drop-of-length-le (take s (drop i a)) {i = k} (omega (arith, length-front))
-
-module _ (s i j : ℕ) (a b : List ℕ) where
-  pub left-all : Left s i a j b 3
-  unfolding ranksOf
-  left-all = refl
-
-  module _ (k : ℕ) (pre : (3 ≤ s) × (i + s ≤ length a) × (j + s ≤ length b)) (inv : Left s i a j b k) where
-    heads : k < s → before (ranksOf s (drop i a)) (ranksOf s (drop j b))
-        ≡ before (getD a (i + k) 0 ∷ drop (k + 1) (take s (drop i a))) (getD b (j + k) 0 ∷ drop (k + 1) (take s (drop j b)))
-    heads l = inv ∙ ap₂ before (front-cons s i a (pre .1) k l) (front-cons s j b (pre .2) k l)
-
-    pub left-differ : k < s → (getD a (i + k) 0 ≡ getD b (j + k) 0 → ⊥)
-        → ltb (getD a (i + k) 0) (getD b (j + k) 0) ≡ before (ranksOf s (drop i a)) (ranksOf s (drop j b))
-    left-differ l n = sym (heads l ∙ before-differ _ _ _ _ n)
-
-    pub left-more : k < s → getD a (i + k) 0 ≡ getD b (j + k) 0 → Left s i a j b (k + 1)
-    left-more l e = heads l ∙ before-same _ _ _ _ e
-
-    pub left-none : s ≤ k → false ≡ before (ranksOf s (drop i a)) (ranksOf s (drop j b))
-    unfolding before
-    left-none l = sym (inv ∙ ap₂ before (front-end s i a (pre .1) k l) (front-end s j b (pre .2) k l))
 
 -- ---- both tests of a comparison
 

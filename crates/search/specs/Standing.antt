@@ -1,9 +1,9 @@
 -- What is known of a pair's key where its t-values were weighed one after the other. Assumes nothing.
 use mathlib.Core.Path.{_≡_}
 use mathlib.Core.Bool.{true, false}
-use mathlib.Core.List.{List, [], _∷_, map}
+use mathlib.Core.List.{List, _∷_, map}
 use Prim.Native.Nat.{ℕ, _-_, _≤_}
-use lib.ListN.{length, take, drop}
+use lib.ListN.{length, take}
 use Rattle.definitions.specs.Number.{numbers}
 use Rattle.definitions.specs.Net.{tValue}
 use Rattle.definitions.specs.Pages.{above}
@@ -15,10 +15,6 @@ use Rattle.search.specs.Frame.{topOf, placeFrom}
 use Rattle.search.specs.declared.frame.Frame.{Frame}
 use Rattle.search.specs.declared.rank.Standing.{Standing}
 use Rattle.search.specs.declared.rank.Standing.the-variants.{Low, High, Open}
-
--- The t-values among the first s numbers of a row.
-unfoldable pub ranksOf : ℕ → List ℕ → List ℕ
-ranksOf s r = drop 3 (take s r)
 
 -- A row of k t-values whose step is not known yet.
 unfoldable pub begun : ℕ → ℕ → ℕ → ℕ → List ℕ

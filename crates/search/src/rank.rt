@@ -8,9 +8,11 @@ ghost use Rattle.definitions.specs.Pages.{before};
 ghost use Rattle.definitions.specs.Generator.{accepted};
 ghost use Rattle.fraction_laws.specs.WellFormed.{WellFormed};
 ghost use Rattle.search.specs.Frame.{stateOf, Searching};
-ghost use Rattle.search.specs.Standing.{ranksOf, Weighed};
+ghost use Rattle.insertion.specs.Ranks.{ranksOf};
+ghost use Rattle.search.specs.Standing.{Weighed};
 use crate::frame::Frame;
 use crate::frame::Tally;
+use insertion::rows::ranks_before;
 use net::values::next_t;
 
 // Where a key stands: not above the position; above it and behind every row kept, with no room left; or neither is known.
@@ -18,23 +20,6 @@ pub enum Standing {
     Low,
     High,
     Open,
-}
-
-// Whether the t-values among the first `s` numbers of the row of `a` at `i` stand before those of `b` at `j`.
-fn ranks_before(a: &[u32], i: usize, b: &[u32], j: usize, s: usize) -> bool
-    requires { ⌜ (3 ≤ s) × (i + s ≤ length (now a)) × (j + s ≤ length (now b)) ⌝ }
-    ensures { λ r. ⌜ r ≡ before (ranksOf s (drop i (now (a .entry)))) (ranksOf s (drop j (now (b .entry)))) ⌝ }
-{
-    let mut k: usize = 3;
-    while k < s {
-        let x = a[i + k];
-        let y = b[j + k];
-        if x != y {
-            return x < y;
-        }
-        k += 1;
-    }
-    false
 }
 
 // Whether the first t-values put a row before the position.

@@ -1,73 +1,43 @@
--- `rows::stands_before` compares two keys. The invariant: they compare as what is left of them from place k on. The measure is what is left
--- of the row. Assumes nothing.
-use Prim.Native.Nat.{_-_, _≤_}
-use native.Mathlib.Omega.{arith}
+-- `rows::stands_before` compares two keys: the t-values of one stand before those of the other, or they are the same and the pairs decide.
+-- Assumes nothing.
+use mathlib.Core.Path.{sym, _∙_}
 use Rattle.insertion.proofs.RowLaws as laws
 use borrow.Author.Needs.{needs}
 use Rattle.insertion.proofs.rows.stands_before.Statement.{statement}
 use Rattle.insertion.proofs.rows.stands_before.Tie as tie
 
-abbrev Inv-loop : tie.InvT-loop
-Inv-loop a i b j w k₀ k = (3 ≤ k) × (k ≤ w) × laws.Left w i a j b k
+ranks-before-requires : tie.Need-ranks-before-requires
+ranks-before-requires c κs = search needs
 
-abbrev μ-loop : tie.MeasureT-loop
-μ-loop a i b j w k₀ k = w - k
+returns : tie.Need-returns
+returns c =
+    let g = c .before .before .before .before .args in
+    laws.ranks-first (g .w) (g .i) (g .j) (g .a .now) (g .b .now) (c .before .before .before .before .pre) (sym (c .before .ranks-before .ensures) ∙ c .if1 .taken)
 
-loop-holds : tie.Need-loop-holds Inv-loop μ-loop
-loop-holds c = let g = c .before .before .args in (omega arith, omega arith, laws.left-all (g .w) (g .i) (g .j) (g .a .now) (g .b .now))
+ranks-before-requires-2 : tie.Need-ranks-before-requires-2
+ranks-before-requires-2 c κs = search needs
 
-add-x : tie.Need-add-x Inv-loop μ-loop
-add-x c = search needs
+returns-2 : tie.Need-returns-2
+returns-2 c =
+    let g = c .before .before .before .before .before .before .args in
+    laws.ranks-second (g .w) (g .i) (g .j) (g .a .now) (g .b .now) (c .before .before .before .before .before .before .pre) (sym (c .before .ranks-before2 .ensures) ∙ c .if2 .taken)
 
-mul-x : tie.Need-mul-x Inv-loop μ-loop
-mul-x c = search needs
-
-shared-slice-read-x : tie.Need-shared-slice-read-x Inv-loop μ-loop
-shared-slice-read-x c = search needs
-
-add-y : tie.Need-add-y Inv-loop μ-loop
-add-y c = search needs
-
-mul-y : tie.Need-mul-y Inv-loop μ-loop
-mul-y c = search needs
-
-shared-slice-read-y : tie.Need-shared-slice-read-y Inv-loop μ-loop
-shared-slice-read-y c = search needs
-
-returns : tie.Need-returns Inv-loop μ-loop
-returns c = laws.left-differ _ _ _ _ _ _ (c .before .before .before .before .before .before .before .pre) (c .before .before .before .before .loop .inv .2) (omega arith) (c .if1 .taken)
-
-add-k : tie.Need-add-k Inv-loop μ-loop
-add-k c = search needs
-
-loop-less : tie.Need-loop-less Inv-loop μ-loop
-loop-less c = search needs
-
-loop-again : tie.Need-loop-again Inv-loop μ-loop
-loop-again c = (omega arith, omega arith, laws.left-more _ _ _ _ _ _ (c .before .before .before .before .before .before .before .pre) (c .before .before .before .before .loop .inv .2) (omega arith) (c .if1 .left))
-
-pair-before-requires : tie.Need-pair-before-requires Inv-loop μ-loop
+pair-before-requires : tie.Need-pair-before-requires
 pair-before-requires c κs = search needs
 
-returns-2 : tie.Need-returns-2 Inv-loop μ-loop
-returns-2 c = laws.end-done _ _ _ _ _ (c .before .before .loop .k) (c .before .before .before .before .before .pre) (c .before .before .loop .inv .2) (omega arith) (c .pair-before .ensures)
+returns-3 : tie.Need-returns-3
+returns-3 c =
+    let g = c .before .before .before .before .before .before .before .args in
+    laws.ranks-same (g .w) (g .i) (g .j) (g .a .now) (g .b .now) (c .before .before .before .before .before .before .before .pre) (sym (c .before .before .before .before .ranks-before .ensures) ∙ c .before .before .before .if1 .left) (sym (c .before .before .ranks-before2 .ensures) ∙ c .before .if2 .left)
+    (c .pair-before .ensures)
 
 pub stands-before-spec : {M : Type 1} → statement M
 stands-before-spec =
     tie.close
     (tie.spec
-    Inv-loop
-    μ-loop
-    loop-holds
-    add-x
-    mul-x
-    shared-slice-read-x
-    add-y
-    mul-y
-    shared-slice-read-y
+    ranks-before-requires
     returns
-    add-k
-    loop-less
-    loop-again
+    ranks-before-requires-2
+    returns-2
     pair-before-requires
-    returns-2)
+    returns-3)

@@ -1,11 +1,11 @@
--- `rank::ranks_before` compares the first t-values of two rows. The invariant: they compare as what is left of them from place k on. The
+-- `rows::ranks_before` compares the first t-values of two rows. The invariant: they compare as what is left of them from place k on. The
 -- measure is what is left of them. Assumes nothing.
 use Prim.Native.Nat.{_-_, _≤_}
 use native.Mathlib.Omega.{arith}
-use Rattle.search.proofs.RankLaws as laws
+use Rattle.insertion.proofs.RowLaws as laws
 use borrow.Author.Needs.{needs}
-use Rattle.search.proofs.rank.ranks_before.Statement.{statement}
-use Rattle.search.proofs.rank.ranks_before.Tie as tie
+use Rattle.insertion.proofs.rows.ranks_before.Statement.{statement}
+use Rattle.insertion.proofs.rows.ranks_before.Tie as tie
 
 abbrev Inv-loop : tie.InvT-loop
 Inv-loop a i b j s k₀ k = (3 ≤ k) × (k ≤ s) × laws.Left s i a j b k
