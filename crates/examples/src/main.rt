@@ -4,6 +4,7 @@ use definitions::Uniformity;
 
 mod damaged; // catalogues whole and damaged
 mod output; // words of the full period
+mod pages; // pages of a short list
 mod print; // what is printed with
 mod reading; // the printed catalogue, row by row
 
@@ -55,6 +56,7 @@ fn t_values() {
 fn main() {
     judgings();
     t_values();
+    pages::all();
     output::all();
     reading::all();
     damaged::all();

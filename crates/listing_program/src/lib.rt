@@ -8,12 +8,17 @@ use asking::read_input;
 use definitions::Line;
 use output::print_refused;
 
-pub fn run() {
-    let mut input = [0u8; 64];
-    let n = read_input(&mut input);
-    let line = listing::read_line(&input[..n]);
-    match line {
+// What is printed for the bytes of a line.
+pub fn answer(input: &[u8]) {
+    match listing::read_line(input) {
         Line::Asked(degree, top, size) => print_answer(degree, top, size),
         Line::Unreadable => print_refused(0),
     }
+}
+
+// The same for the line that stands at standard input.
+pub fn run() {
+    let mut input = [0u8; 64];
+    let n = read_input(&mut input);
+    answer(&input[..n]);
 }
