@@ -1,5 +1,5 @@
 // Lines that a careless reader would take, or refuse, wrongly, with what the listing program prints for each.
-use listing_program::answer;
+use listing_program::program::answer;
 
 fn lines_1() {
     answer(b"");

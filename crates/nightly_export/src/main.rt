@@ -1,4 +1,4 @@
 // The nightly export: the listing of one degree, with the default top dimension and page size.
 fn main() {
-    listing_program::run();
+    listing_program::program::run();
 }

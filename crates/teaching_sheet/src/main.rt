@@ -1,4 +1,4 @@
 // The sheet for teaching: the listing of a degree short enough to hand out.
 fn main() {
-    listing_program::run();
+    listing_program::program::run();
 }

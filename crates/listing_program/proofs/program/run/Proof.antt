@@ -1,9 +1,9 @@
--- `listing_program::run` is safe and ends. Assumes nothing.
+-- `listing_program::program::run` is safe and ends. Assumes nothing.
 use mathlib.Core.Path.{sym}
 use lib.Seq.{length-take-le}
 use borrow.Author.Needs.{needs}
-use Rattle.listing_program.proofs.run.Statement.{statement}
-use Rattle.listing_program.proofs.run.Tie as tie
+use Rattle.listing_program.proofs.program.run.Statement.{statement}
+use Rattle.listing_program.proofs.program.run.Tie as tie
 
 slice-aggregate-read-input : tie.Need-slice-aggregate-read-input
 slice-aggregate-read-input c = search needs
