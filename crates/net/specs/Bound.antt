@@ -6,11 +6,12 @@ use Prim.Native.Nat.{ℕ, suc, _-_, _^_, _≤_, _<_}
 use native.Mathlib.Omega.{arith}
 use lib.Pow.{pow-mono}
 use Rattle.definitions.specs.Polynomial.{prod, rem}
-use Rattle.definitions.specs.Generator.{period, accepted}
+use Rattle.definitions.specs.Generator.{period, accepted, linearQuotients}
 use Rattle.definitions.specs.Points.{state}
 use Rattle.polynomial_laws.specs.Degree.{HasDegree}
 use Rattle.polynomial_laws.specs.Product.{prod-comm}
 use Rattle.polynomial_laws.specs.Power.{rem-one}
+use Rattle.fraction_laws.specs.Inverse.{linear-invertible}
 use Rattle.order_laws.specs.Cycle.{degree-big}
 use Rattle.order_laws.specs.State.{state-suc}
 use Rattle.order_laws.specs.Accepted.{full-period}
@@ -41,3 +42,9 @@ stop-accepted m p q low h some small t =
     let more : period m ≡ suc n = omega (arith, pow-mono low) in
     let once : rem (prod q (state p q n)) p ≡ 1 = sym (state-suc p q n) ∙ ap (state p q) (sym more) ∙ back in
     stop-inverse m p q (state p q n) h (ap (λ (z : ℕ). rem z p) (prod-comm (state p q n) q) ∙ once ∙ sym (rem-one p (degree-big m p low h)))
+
+pub stop-linear : (m p q : ℕ) → 1 ≤ m → HasDegree p m → linearQuotients p q ≡ true → Stop m p q 2
+stop-linear m p q low h t =
+    let big = degree-big m p low h in
+    let i = linear-invertible p q big t in
+    stop-inverse m p q (i .r) h (ap (λ (z : ℕ). rem z p) (prod-comm (i .r) q) ∙ i .inverse ∙ sym (rem-one p big))

@@ -6,6 +6,7 @@ use definitions::Uniformity;
 use generator::degrees;
 use generator::pair;
 
+pub mod bound; // where the search may stop
 pub mod dimensions; // the dimensions that the library covers
 pub mod rows; // the powers of q modulo p
 pub mod search; // the least weight, one coordinate more at a time
@@ -24,5 +25,6 @@ pub fn t_value(degree: u32, p: u32, q: u32, dimension: u32) -> Uniformity
     if !pair::is_well_formed(degree, p, q) {
         return Uniformity::Undefined(Refusal::IllFormedPair);
     }
-    Uniformity::Value(values::t_at(degree, p, q, dimension as usize, 1))
+    let bound = bound::stop_bound(degree, p, q);
+    Uniformity::Value(values::t_at(degree, p, q, dimension as usize, bound))
 }

@@ -11,7 +11,6 @@ use Rattle.definitions.specs.Ranking.{largestTop, lawfulDimension}
 use Rattle.definitions.specs.declared.Uniformity.the-variants.{Value}
 use Rattle.fraction_laws.specs.WellFormed.{wellFormed-is}
 use Rattle.generator.specs.Lawful.{lawful-is}
-use Rattle.net.specs.Bound.{stop-any}
 use Rattle.net.proofs.UniformityLaws.{uniformity-degree, uniformity-dimension, uniformity-pair, uniformity-value}
 use Rattle.net.proofs.t_value.Statement.{statement}
 use Rattle.net.proofs.t_value.Tie as tie
@@ -45,21 +44,27 @@ returns-3 c =
 formed : (c : tie.Else3) → wellFormed (c .before .before .before .before .before .before .args .degree) (c .before .before .before .before .before .before .args .p) (c .before .before .before .before .before .before .args .q) ≡ true
 formed c = sym (c .before .is-well-formed .ensures) ∙ not-false _ (c .if3 .left)
 
-t-at-requires : tie.Need-t-at-requires
-t-at-requires c κs =
+stop-bound-requires : tie.Need-stop-bound-requires
+stop-bound-requires c κs =
     let at = c .before .before in
     let a = at .before .before .before .before .args in
+    (lawful-is (a .degree) .0 (lawful (at .before .before)), wellFormed-is (a .degree) (a .p) (a .q) .0 (formed c))
+
+t-at-requires : tie.Need-t-at-requires
+t-at-requires c κs =
+    let at = c .before .before .before in
+    let a = at .before .before .before .before .args in
     let degree = lawful-is (a .degree) .0 (lawful (at .before .before)) in
-    let pair = wellFormed-is (a .degree) (a .p) (a .q) .0 (formed c) in
+    let pair = wellFormed-is (a .degree) (a .p) (a .q) .0 (formed (c .before)) in
     let dimension = and-eq-true-iff (leb 1 (a .dimension)) (leb (a .dimension) largestTop) .0 (spanned at) in (
       record { low = omega (arith, degree .low); high = omega (arith, degree .high); exactly = pair .degree-p },
-      (stop-any _ _ _ (pair .degree-p), (leb-true _ _ (dimension .0), leb-true _ _ (dimension .1))),
+      (c .stop-bound .ensures, (leb-true _ _ (dimension .0), leb-true _ _ (dimension .1))),
     )
 
 returns-4 : tie.Need-returns-4
 returns-4 c =
-    let at = c .before .before .before in
-    ap Value (c .t-at .ensures) ∙ sym (uniformity-value _ _ _ _ (lawful (at .before .before)) (spanned at) (formed (c .before)))
+    let at = c .before .before .before .before in
+    ap Value (c .t-at .ensures) ∙ sym (uniformity-value _ _ _ _ (lawful (at .before .before)) (spanned at) (formed (c .before .before)))
 
 pub t-value-spec : {M : Type 1} → statement M
 t-value-spec =
@@ -71,5 +76,6 @@ t-value-spec =
     returns-2
     is-well-formed-requires
     returns-3
+    stop-bound-requires
     t-at-requires
     returns-4)
