@@ -135,6 +135,9 @@ fn one_byte_changed_3() {
     changed(40, 255);
     changed(33, 255);
     changed(38, 8);
+    changed(3, 1);
+    changed(5, 1);
+    changed(6, 1);
 }
 
 fn other_files_1() {
