@@ -5,41 +5,10 @@ ghost use Prim.Native.Nat.{ℕ, _+_, _*_, _^_, _<_, _≤_};
 ghost use lib.Dec.{leb};
 ghost use lib.ListN.{length};
 ghost use Rattle.definitions.specs.Number.{every};
-ghost use Rattle.definitions.specs.Generator.{lawfulDegree};
-ghost use Rattle.definitions.specs.Ranking.{lawfulTop};
 ghost use Rattle.definitions.specs.Catalogue.{byteAt, numberAt, contentsSize, rowSize, bodySize, rowForm, entryAt, entryForm, entriesForm, catalogueForm};
 
-const LEAST_DEGREE: u32 = 2;
-
-const LARGEST_DEGREE: u32 = 16;
-
-const LEAST_TOP: u32 = 3;
-
-const LARGEST_TOP: u32 = 8;
-
-const MOST_ENTRIES: usize = 15;
-
-// From `least` to `most`.
-pub fn between(x: u32, least: u32, most: u32) -> bool
-    ensures { λ r. ⌜ r ≡ (leb least x && leb x most) ⌝ }
-{
-    if x < least {
-        return false;
-    }
-    x <= most
-}
-
-pub fn lawful_degree(degree: u32) -> bool
-    ensures { λ r. ⌜ r ≡ lawfulDegree degree ⌝ }
-{
-    between(degree, LEAST_DEGREE, LARGEST_DEGREE)
-}
-
-pub fn lawful_top(top: u32) -> bool
-    ensures { λ r. ⌜ r ≡ lawfulTop top ⌝ }
-{
-    between(top, LEAST_TOP, LARGEST_TOP)
-}
+// As many as there are lawful degrees.
+const MOST_ENTRIES: usize = (limits::LARGEST_DEGREE - limits::LEAST_DEGREE + 1) as usize;
 
 pub fn byte(s: &[u8], i: usize) -> u32
     requires { ⌜ i < length (now s) ⌝ }
@@ -162,13 +131,13 @@ pub fn entry_form(s: &[u8], i: usize, last: u32, at: usize) -> bool
     let degree = entry_degree(s, i);
     let top = entry_top(s, i);
     let rows = entry_rows(s, i) as usize;
-    if !lawful_degree(degree) {
+    if !limits::is_lawful_degree(degree) {
         return false;
     }
     if degree <= last {
         return false;
     }
-    if !lawful_top(top) {
+    if !limits::is_lawful_top(top) {
         return false;
     }
     let offset = entry_offset(s, i) as usize;

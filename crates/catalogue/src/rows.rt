@@ -9,10 +9,10 @@ ghost use Rattle.definitions.specs.Catalogue.{rowSize, atRow, tAt, rowAt};
 pub fn at_row(body: &[u8], degree: u32, top: u32, place: usize) -> bool
     ensures { λ r. ⌜ r ≡ atRow degree top (now (body .entry)) place ⌝ }
 {
-    if !form::lawful_degree(degree) {
+    if !limits::is_lawful_degree(degree) {
         return false;
     }
-    if !form::lawful_top(top) {
+    if !limits::is_lawful_top(top) {
         return false;
     }
     let size = top as usize + 4;

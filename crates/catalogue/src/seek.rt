@@ -32,7 +32,7 @@ pub fn entry_of(s: &[u8], degree: u32) -> usize
 pub fn seek(s: &[u8], degree: u32) -> Sought
     ensures { λ r. ⌜ r ≡ seeking (now (s .entry)) degree ⌝ }
 {
-    if !form::lawful_degree(degree) {
+    if !limits::is_lawful_degree(degree) {
         return Sought::Missing(Refusal::WrongDegree);
     }
     if !form::catalogue_form(s) {

@@ -1,18 +1,7 @@
-// The degrees that the library covers.
+// Polynomials of a lawful degree.
 ghost use mathlib.Core.Path.{_≡_};
 ghost use Prim.Native.Nat.{_^_};
-ghost use Rattle.definitions.specs.Generator.{lawfulDegree};
 ghost use Rattle.generator.specs.Lawful.{Lawful};
-
-pub const LEAST: u32 = 2;
-
-pub const LARGEST: u32 = 16;
-
-pub fn is_lawful(m: u32) -> bool
-    ensures { λ r. ⌜ r ≡ lawfulDegree m ⌝ }
-{
-    LEAST <= m && m <= LARGEST
-}
 
 // The leading term of a polynomial of degree m.
 pub fn leading_term(m: u32) -> u32

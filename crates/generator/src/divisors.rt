@@ -79,5 +79,5 @@ pub fn divisor(m: u32, i: usize) -> u32
     requires { ⌜ i < 4 ⌝ }
     ensures { λ r. ⌜ r ≡ getD (divisorsOf m) i 0 ⌝ }
 {
-    DIVISORS[(m - degrees::LEAST) as usize * PLACES + i]
+    DIVISORS[(m - limits::LEAST_DEGREE) as usize * PLACES + i]
 }

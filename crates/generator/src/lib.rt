@@ -5,7 +5,7 @@ use definitions::Judgement;
 use definitions::Refusal;
 
 pub mod common_divisor; // the greatest common divisor of two numbers
-pub mod degrees; // the degrees that the library covers
+pub mod degrees; // the leading term of a degree
 pub mod divisors; // the table of prime divisors of 2^m - 1
 pub mod primitive; // the tests by powers over that table: of p, and of q's order
 pub mod step; // the step finder
@@ -15,7 +15,7 @@ pub mod pair; // judging a pair of a lawful degree
 pub fn judge(degree: u32, p: u32, q: u32) -> Judgement
     ensures { λ r. ⌜ r ≡ judgement degree p q ⌝ }
 {
-    if !degrees::is_lawful(degree) {
+    if !limits::is_lawful_degree(degree) {
         return Judgement::Rejected(Refusal::WrongDegree);
     }
     pair::judge_pair(degree, p, q)

@@ -3,11 +3,9 @@ ghost use mathlib.Core.Path.{_≡_};
 ghost use Rattle.definitions.specs.Calls.{uniformity};
 use definitions::Refusal;
 use definitions::Uniformity;
-use generator::degrees;
 use generator::pair;
 
 pub mod bound; // where the search may stop
-pub mod dimensions; // the dimensions that the library covers
 pub mod rows; // the powers of q modulo p
 pub mod search; // the least weight, one coordinate more at a time
 pub mod values; // t-values of one pair, each from the one before
@@ -16,10 +14,10 @@ pub mod values; // t-values of one pair, each from the one before
 pub fn t_value(degree: u32, p: u32, q: u32, dimension: u32) -> Uniformity
     ensures { λ r. ⌜ r ≡ uniformity degree p q dimension ⌝ }
 {
-    if !degrees::is_lawful(degree) {
+    if !limits::is_lawful_degree(degree) {
         return Uniformity::Undefined(Refusal::WrongDegree);
     }
-    if !dimensions::is_lawful(dimension) {
+    if !limits::is_lawful_dimension(dimension) {
         return Uniformity::Undefined(Refusal::WrongDimension);
     }
     if !pair::is_well_formed(degree, p, q) {

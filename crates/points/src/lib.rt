@@ -16,7 +16,7 @@ pub fn points(degree: u32, p: u32, q: u32, first: u32, out: &mut [u32]) -> Point
     ensures answer { λ a. ⌜ a ≡ pointsAnswer degree p q first (now (out .entry)) ⌝ }
     ensures slice { λ a. ⌜ now (out .exit) ≡ pointsSlice degree p q first (now (out .entry)) ⌝ }
 {
-    if !degrees::is_lawful(degree) {
+    if !limits::is_lawful_degree(degree) {
         return PointsAnswer::NotWritten(Refusal::WrongDegree);
     }
     match pair::judge_pair(degree, p, q) {

@@ -1,25 +1,12 @@
 // Pages of the ranked list.
 ghost use mathlib.Core.Path.{_≡_};
 ghost use Rattle.definitions.specs.Calls.{pageAnswer, pageSlice};
-ghost use Rattle.definitions.specs.Ranking.{lawfulTop};
 use definitions::PageAnswer;
 use definitions::PageRequest;
 use definitions::Position;
 use definitions::Refusal;
-use generator::degrees;
 
 pub mod serve; // a page of a lawful degree and top dimension
-
-pub const LEAST_TOP: u32 = 3;
-
-pub const LARGEST_TOP: u32 = 8;
-
-// Whether the top dimension is one that the library covers.
-fn is_lawful_top(top: u32) -> bool
-    ensures { λ r. ⌜ r ≡ lawfulTop top ⌝ }
-{
-    LEAST_TOP <= top && top <= LARGEST_TOP
-}
 
 // The rows of the ranked list above the position, as many as fit `out`, from its front: how many, and whether a further row exists; or document
 // 01's refusal 1 or 2, 3 to 6 for a position after a pair, or 7. Every number behind the rows stays, and a refusal writes nothing.
@@ -30,10 +17,10 @@ pub fn page(request: PageRequest, out: &mut [u32]) -> PageAnswer
     let degree = request.degree;
     let top = request.top;
     let position = request.position;
-    if !degrees::is_lawful(degree) {
+    if !limits::is_lawful_degree(degree) {
         return PageAnswer::NoPage(Refusal::WrongDegree);
     }
-    if !is_lawful_top(top) {
+    if !limits::is_lawful_top(top) {
         return PageAnswer::NoPage(Refusal::WrongDimension);
     }
     match position {

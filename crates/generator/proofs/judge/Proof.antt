@@ -10,14 +10,14 @@ use Rattle.generator.specs.Judging.{judgement-unlawful, judgement-lawful
 use Rattle.generator.proofs.judge.Statement.{statement}
 use Rattle.generator.proofs.judge.Tie as tie
 
-is-lawful-requires : tie.Need-is-lawful-requires
-is-lawful-requires c κs = search needs
+is-lawful-degree-requires : tie.Need-is-lawful-degree-requires
+is-lawful-degree-requires c κs = search needs
 
 returns : tie.Need-returns
-returns c = sym (judgement-unlawful _ _ _ (sym (c .before .is-lawful .ensures) ∙ not-true _ (c .if1 .taken)))
+returns c = sym (judgement-unlawful _ _ _ (sym (c .before .is-lawful-degree .ensures) ∙ not-true _ (c .if1 .taken)))
 
 lawful : (c : tie.Else1) → lawfulDegree (c .before .before .args .degree) ≡ true
-lawful c = sym (c .before .is-lawful .ensures) ∙ not-false _ (c .if1 .left)
+lawful c = sym (c .before .is-lawful-degree .ensures) ∙ not-false _ (c .if1 .left)
 
 judge-pair-requires : tie.Need-judge-pair-requires
 judge-pair-requires c κs = lawful-is _ .0 (lawful c)
@@ -26,4 +26,4 @@ returns-2 : tie.Need-returns-2
 returns-2 c = c .judge-pair .ensures ∙ sym (judgement-lawful _ _ _ (lawful (c .before)))
 
 pub judge-spec : {M : Type 1} → statement M
-judge-spec = tie.close (tie.spec is-lawful-requires returns judge-pair-requires returns-2)
+judge-spec = tie.close (tie.spec is-lawful-degree-requires returns judge-pair-requires returns-2)

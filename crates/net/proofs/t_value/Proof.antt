@@ -15,23 +15,23 @@ use Rattle.net.proofs.UniformityLaws.{uniformity-degree, uniformity-dim
 use Rattle.net.proofs.t_value.Statement.{statement}
 use Rattle.net.proofs.t_value.Tie as tie
 
-is-lawful-requires : tie.Need-is-lawful-requires
-is-lawful-requires c κs = search needs
+is-lawful-degree-requires : tie.Need-is-lawful-degree-requires
+is-lawful-degree-requires c κs = search needs
 
 returns : tie.Need-returns
-returns c = sym (uniformity-degree _ _ _ _ (sym (c .before .is-lawful .ensures) ∙ not-true _ (c .if1 .taken)))
+returns c = sym (uniformity-degree _ _ _ _ (sym (c .before .is-lawful-degree .ensures) ∙ not-true _ (c .if1 .taken)))
 
 lawful : (c : tie.Else1) → lawfulDegree (c .before .before .args .degree) ≡ true
-lawful c = sym (c .before .is-lawful .ensures) ∙ not-false _ (c .if1 .left)
+lawful c = sym (c .before .is-lawful-degree .ensures) ∙ not-false _ (c .if1 .left)
 
-is-lawful-requires-2 : tie.Need-is-lawful-requires-2
-is-lawful-requires-2 c κs = search needs
+is-lawful-dimension-requires : tie.Need-is-lawful-dimension-requires
+is-lawful-dimension-requires c κs = search needs
 
 returns-2 : tie.Need-returns-2
-returns-2 c = sym (uniformity-dimension _ _ _ _ (lawful (c .before .before)) (sym (c .before .is-lawful2 .ensures) ∙ not-true _ (c .if2 .taken)))
+returns-2 c = sym (uniformity-dimension _ _ _ _ (lawful (c .before .before)) (sym (c .before .is-lawful-dimension .ensures) ∙ not-true _ (c .if2 .taken)))
 
 spanned : (c : tie.Else2) → lawfulDimension (c .before .before .before .before .args .dimension) ≡ true
-spanned c = sym (c .before .is-lawful2 .ensures) ∙ not-false _ (c .if2 .left)
+spanned c = sym (c .before .is-lawful-dimension .ensures) ∙ not-false _ (c .if2 .left)
 
 is-well-formed-requires : tie.Need-is-well-formed-requires
 is-well-formed-requires c κs = lawful-is _ .0 (lawful (c .before .before))
@@ -70,9 +70,9 @@ pub t-value-spec : {M : Type 1} → statement M
 t-value-spec =
     tie.close
     (tie.spec
-    is-lawful-requires
+    is-lawful-degree-requires
     returns
-    is-lawful-requires-2
+    is-lawful-dimension-requires
     returns-2
     is-well-formed-requires
     returns-3

@@ -14,14 +14,14 @@ use Rattle.points.specs.Answering.{answered-unlawful, answered-rejected,
 use Rattle.points.proofs.points.Statement.{statement}
 use Rattle.points.proofs.points.Tie as tie
 
-is-lawful-requires : tie.Need-is-lawful-requires
-is-lawful-requires c κs = search needs
+is-lawful-degree-requires : tie.Need-is-lawful-degree-requires
+is-lawful-degree-requires c κs = search needs
 
 returns : tie.Need-returns
-returns c = answered-unlawful _ _ _ _ _ (sym (c .before .is-lawful .ensures) ∙ not-true _ (c .if1 .taken))
+returns c = answered-unlawful _ _ _ _ _ (sym (c .before .is-lawful-degree .ensures) ∙ not-true _ (c .if1 .taken))
 
 lawful : (c : tie.Else1) → lawfulDegree (c .before .before .before .args .degree) ≡ true
-lawful c = sym (c .before .is-lawful .ensures) ∙ not-false _ (c .if1 .left)
+lawful c = sym (c .before .is-lawful-degree .ensures) ∙ not-false _ (c .if1 .left)
 
 covered : (c : tie.Else1) → Lawful (c .before .before .before .args .degree)
 covered c = lawful-is _ .0 (lawful c)
@@ -85,7 +85,7 @@ pub points-spec : {M : Type 1} → statement M
 points-spec =
     tie.close
     (tie.spec
-    is-lawful-requires
+    is-lawful-degree-requires
     returns
     judge-pair-requires
     enum-known-refusal

@@ -7,13 +7,13 @@ use borrow.Author.Needs.{needs}
 use Rattle.ranking.proofs.page.Statement.{statement}
 use Rattle.ranking.proofs.page.Tie as tie
 
-is-lawful-requires : tie.Need-is-lawful-requires
-is-lawful-requires c κs = search needs
+is-lawful-degree-requires : tie.Need-is-lawful-degree-requires
+is-lawful-degree-requires c κs = search needs
 
 returns : tie.Need-returns
 returns c =
     let g = c .before .before .before .args in
-    let d = sym (c .before .is-lawful .ensures) ∙ not-true _ (c .if1 .taken) in
+    let d = sym (c .before .is-lawful-degree .ensures) ∙ not-true _ (c .if1 .taken) in
     (laws.wrong-degree-answer (g .request) (g .out .now) d, laws.wrong-degree-slice (g .request) (g .out .now) d)
 
 is-lawful-top-requires : tie.Need-is-lawful-top-requires
@@ -22,7 +22,7 @@ is-lawful-top-requires c κs = search needs
 returns-2 : tie.Need-returns-2
 returns-2 c =
     let g = c .before .before .before .before .before .args in
-    let d = sym (c .before .before .before .is-lawful .ensures) ∙ not-false _ (c .before .before .if1 .left) in
+    let d = sym (c .before .before .before .is-lawful-degree .ensures) ∙ not-false _ (c .before .before .if1 .left) in
     let t = sym (c .before .is-lawful-top .ensures) ∙ not-true _ (c .if2 .taken) in
     (laws.wrong-top-answer (g .request) (g .out .now) d t, laws.wrong-top-slice (g .request) (g .out .now) d t)
 
@@ -32,7 +32,7 @@ enum-told c = search needs
 first-page-requires : tie.Need-first-page-requires
 first-page-requires c κs =
     let g = c .before .before .before .before .before .before .before .before .args in
-    let d = sym (c .before .before .before .before .before .before .is-lawful .ensures) ∙ not-false _ (c .before .before .before .before .before .if1 .left) in
+    let d = sym (c .before .before .before .before .before .before .is-lawful-degree .ensures) ∙ not-false _ (c .before .before .before .before .before .if1 .left) in
     let t = sym (c .before .before .before .before .is-lawful-top .ensures) ∙ not-false _ (c .before .before .before .if2 .left) in
     (lawful-is (g .request .degree) .0 d, laws.lawful-top (g .request .top) t)
 
@@ -42,7 +42,7 @@ enum-known-position c = search needs
 next-page-requires : tie.Need-next-page-requires
 next-page-requires c κs =
     let g = c .before .before .before .before .before .before .before .before .before .args in
-    let d = sym (c .before .before .before .before .before .before .before .is-lawful .ensures) ∙ not-false _ (c .before .before .before .before .before .before .if1 .left) in
+    let d = sym (c .before .before .before .before .before .before .before .is-lawful-degree .ensures) ∙ not-false _ (c .before .before .before .before .before .before .if1 .left) in
     let t = sym (c .before .before .before .before .before .is-lawful-top .ensures) ∙ not-false _ (c .before .before .before .before .if2 .left) in
     (lawful-is (g .request .degree) .0 d, laws.lawful-top (g .request .top) t)
 
@@ -52,7 +52,7 @@ same-length c = search needs
 returns-3 : tie.Need-returns-3
 returns-3 c =
     let g = c .before .before .before .before .before .before .before .before .before .before .before .args in
-    let d = sym (c .before .before .before .before .before .before .before .before .before .is-lawful .ensures) ∙ not-false _ (c .before .before .before .before .before .before .before .before .if1 .left) in
+    let d = sym (c .before .before .before .before .before .before .before .before .before .is-lawful-degree .ensures) ∙ not-false _ (c .before .before .before .before .before .before .before .before .if1 .left) in
     let t = sym (c .before .before .before .before .before .before .before .is-lawful-top .ensures) ∙ not-false _ (c .before .before .before .before .before .before .if2 .left) in
     let told = c .before .before .before .before .enum-told .given .1 in (
       laws.start-answer (g .request) (g .out .now) d t told (c .before .before .first-page .ensures .0),
@@ -65,7 +65,7 @@ same-length-2 c = search needs
 returns-4 : tie.Need-returns-4
 returns-4 c =
     let g = c .before .before .before .before .before .before .before .before .before .before .before .before .args in
-    let d = sym (c .before .before .before .before .before .before .before .before .before .before .is-lawful .ensures) ∙ not-false _ (c .before .before .before .before .before .before .before .before .before .if1 .left) in
+    let d = sym (c .before .before .before .before .before .before .before .before .before .before .is-lawful-degree .ensures) ∙ not-false _ (c .before .before .before .before .before .before .before .before .before .if1 .left) in
     let t = sym (c .before .before .before .before .before .before .before .before .is-lawful-top .ensures) ∙ not-false _ (c .before .before .before .before .before .before .before .if2 .left) in
     let told = c .before .before .before .before .before .position .given .1 in (
       laws.after-answer (g .request) (g .out .now) d t _ _ told (c .before .before .next-page .ensures .0),
@@ -76,7 +76,7 @@ pub page-spec : {M : Type 1} → statement M
 page-spec =
     tie.close
     (tie.spec
-    is-lawful-requires
+    is-lawful-degree-requires
     returns
     is-lawful-top-requires
     returns-2

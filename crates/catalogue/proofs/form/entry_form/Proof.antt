@@ -31,8 +31,8 @@ size-is : (c : tie.After-entry-rows) → c .entry-rows .result * (c .before .ent
 size-is c = ap₂ (λ (r t : ℕ). r * (t + 4)) (rows-are c) (top-is (c .before))
 
 -- What each test says.
-degree-test : (c : tie.After-lawful-degree) → c .lawful-degree .result ≡ lawfulDegree (entry (c .before .before .before .before .before) .degree)
-degree-test c = c .lawful-degree .ensures ∙ ap lawfulDegree (degree-is (c .before .before .before))
+degree-test : (c : tie.After-is-lawful-degree) → c .is-lawful-degree .result ≡ lawfulDegree (entry (c .before .before .before .before .before) .degree)
+degree-test c = c .is-lawful-degree .ensures ∙ ap lawfulDegree (degree-is (c .before .before .before))
 
 lawful : (c : tie.Else1) → lawfulDegree (entry (c .before .before .before .before .before .before) .degree) ≡ true
 lawful c = sym (degree-test (c .before)) ∙ not-false _ (c .if1 .left)
@@ -40,8 +40,8 @@ lawful c = sym (degree-test (c .before)) ∙ not-false _ (c .if1 .left)
 ascends : (c : tie.Else2) → c .before .before .before .before .before .before .before .args .last < entry (c .before .before .before .before .before .before .before) .degree
 ascends c = omega (arith, degree-is (c .before .before .before .before .before))
 
-top-test : (c : tie.After-lawful-top) → c .lawful-top .result ≡ lawfulTop (entry (c .before .before .before .before .before .before .before .before) .top)
-top-test c = c .lawful-top .ensures ∙ ap lawfulTop (top-is (c .before .before .before .before .before))
+top-test : (c : tie.After-is-lawful-top) → c .is-lawful-top .result ≡ lawfulTop (entry (c .before .before .before .before .before .before .before .before) .top)
+top-test c = c .is-lawful-top .ensures ∙ ap lawfulTop (top-is (c .before .before .before .before .before))
 
 tall : (c : tie.Else3) → lawfulTop (entry (c .before .before .before .before .before .before .before .before .before) .top) ≡ true
 tall c = sym (top-test (c .before)) ∙ not-false _ (c .if3 .left)
@@ -64,8 +64,8 @@ entry-rows-requires c κs = search needs
 cast-rows : tie.Need-cast-rows
 cast-rows c = search needs
 
-lawful-degree-requires : tie.Need-lawful-degree-requires
-lawful-degree-requires c κs = search needs
+is-lawful-degree-requires : tie.Need-is-lawful-degree-requires
+is-lawful-degree-requires c κs = search needs
 
 returns : tie.Need-returns
 returns c = let a = c .before .before .before .before .before .before .args in
@@ -77,8 +77,8 @@ returns-2 c = let a = c .before .before .before .before .before .before .before 
     let e = entry (c .before .before .before .before .before .before .before) in
     sym (entry-last (a .s .now) e (a .last) (a .at) (lawful (c .before)) (omega (arith, degree-is (c .before .before .before .before .before))))
 
-lawful-top-requires : tie.Need-lawful-top-requires
-lawful-top-requires c κs = search needs
+is-lawful-top-requires : tie.Need-is-lawful-top-requires
+is-lawful-top-requires c κs = search needs
 
 returns-3 : tie.Need-returns-3
 returns-3 c = let a = c .before .before .before .before .before .before .before .before .before .args in
@@ -138,10 +138,10 @@ entry-form-spec =
     entry-top-requires
     entry-rows-requires
     cast-rows
-    lawful-degree-requires
+    is-lawful-degree-requires
     returns
     returns-2
-    lawful-top-requires
+    is-lawful-top-requires
     returns-3
     entry-offset-requires
     cast-offset

@@ -1,7 +1,7 @@
--- `catalogue::form::between` meets its contract. Assumes nothing.
+-- `limits::between` meets its contract. Assumes nothing.
 use borrow.Author.Tests.{lt-leb, le-leb}
-use Rattle.catalogue.proofs.form.between.Statement.{statement}
-use Rattle.catalogue.proofs.form.between.Tie as tie
+use Rattle.limits.proofs.between.Statement.{statement}
+use Rattle.limits.proofs.between.Tie as tie
 
 returns : tie.Need-returns
 returns c = rw (lt-leb _ _ (c .if1 .taken))

@@ -1,0 +1,43 @@
+// What the library covers: its degrees, its dimensions and its top dimensions. These bounds stand nowhere else in the code.
+ghost use mathlib.Core.Path.{_≡_};
+ghost use mathlib.Core.Bool.{_&&_};
+ghost use lib.Dec.{leb};
+ghost use Rattle.definitions.specs.Generator.{lawfulDegree};
+ghost use Rattle.definitions.specs.Ranking.{lawfulTop, lawfulDimension};
+
+pub const LEAST_DEGREE: u32 = 2;
+
+pub const LARGEST_DEGREE: u32 = 16;
+
+pub const LEAST_TOP: u32 = 3;
+
+pub const LARGEST_TOP: u32 = 8;
+
+// From `least` to `most`.
+pub fn between(x: u32, least: u32, most: u32) -> bool
+    ensures { λ r. ⌜ r ≡ (leb least x && leb x most) ⌝ }
+{
+    if x < least {
+        return false;
+    }
+    x <= most
+}
+
+pub fn is_lawful_degree(degree: u32) -> bool
+    ensures { λ r. ⌜ r ≡ lawfulDegree degree ⌝ }
+{
+    between(degree, LEAST_DEGREE, LARGEST_DEGREE)
+}
+
+pub fn is_lawful_top(top: u32) -> bool
+    ensures { λ r. ⌜ r ≡ lawfulTop top ⌝ }
+{
+    between(top, LEAST_TOP, LARGEST_TOP)
+}
+
+// The dimension of a single t-value.
+pub fn is_lawful_dimension(dimension: u32) -> bool
+    ensures { λ r. ⌜ r ≡ lawfulDimension dimension ⌝ }
+{
+    between(dimension, 1, LARGEST_TOP)
+}
