@@ -7,3 +7,4 @@ pub mod Line
 pub mod Words
 pub mod LongLine
 pub mod Printed
+pub mod Unique
