@@ -4,7 +4,7 @@
 use mathlib.Core.Path.{_≡_, refl, sym, ap, _∙_}
 use mathlib.Core.Bool.{false}
 use Prim.Native.Nat.{ℕ, zero, suc, _+_, _*_, _/_, _%_, _^_, _≤_, _<_}
-use native.Mathlib.Nat.{pow-succ'}
+use native.Mathlib.Nat.{one-mul, pow-succ'}
 use native.Mathlib.Omega.{arith}
 use lib.Count.{ones, ones-step}
 use lib.Pow.{pow-mono}
@@ -12,11 +12,11 @@ use Rattle.definitions.specs.Polynomial.{_⊕_, rem, prod}
 use Rattle.definitions.specs.Generator.{period, primitive}
 use Rattle.number_laws.specs.Truth.{truth-false}
 use Rattle.polynomial_laws.specs.Digits.{Digit, off, on, lowest, half-ind}
-use Rattle.polynomial_laws.specs.Sum.{halves}
+use Rattle.polynomial_laws.specs.Sum.{zero-⊕, ⊕-sums, halves}
 use Rattle.polynomial_laws.specs.Degree.{HasDegree, positive}
-use Rattle.polynomial_laws.specs.Product.{one-prod, two-prod, prod-comm}
-use Rattle.polynomial_laws.specs.Division.{rem-⊕, rem-double, rem-multiple, rem-of-factor}
-use Rattle.polynomial_laws.specs.Power.{rem-one, rem-power-suc}
+use Rattle.polynomial_laws.specs.Product.{prod-half, one-prod, two-prod, prod-comm}
+use Rattle.polynomial_laws.specs.Division.{rem-zero, rem-⊕, rem-multiple, rem-of-factor}
+use Rattle.polynomial_laws.specs.Power.{rem-one}
 use Rattle.order_laws.specs.Powers.{IsOrder}
 use Rattle.order_laws.specs.Primitive.{primitive-order}
 use Rattle.order_laws.specs.Cycle.{full-cycle, PowerOf}
@@ -45,22 +45,33 @@ even-not-primitive m p h pos even = truth-false (primitive m p) (λ t. clash (pe
 abbrev pub parity : ℕ → ℕ
 parity a = ones a % 2
 
-next : {c r : ℕ} → Digit c → Digit r → rem (2 * r) 3 ⊕ rem c 3 ≡ (c + r) % 2
-unfolding rem _⊕_
-next off off = refl
-next off on = refl
-next on off = refl
-next on on = refl
+-- x = (x + 1) + 1
+by-other-double : (a : ℕ) → rem (2 * a) 3 ≡ rem a 3
+by-other-double a =
+    let split : prod a 3 ⊕ a ≡ 2 * a = rw (prod-comm a 3, prod-half 3 a, one-prod, one-mul) (simp ⊕-sums) in
+    ap (λ n. rem n 3) (sym split) ∙ rw (rem-⊕ 3 (omega arith), rem-multiple 3 (omega arith), zero-⊕)
+
+by-other-digit : {c : ℕ} → Digit c → rem c 3 ≡ c
+by-other-digit off = rem-zero 3
+by-other-digit on = rem-one 3 (omega arith)
+
+digits-sum : {c d : ℕ} → Digit c → Digit d → d ⊕ c ≡ (c + d) % 2
+unfolding _⊕_
+digits-sum off off = refl
+digits-sum off on = refl
+digits-sum on off = refl
+digits-sum on on = refl
 
 pub rem-parity : (a : ℕ) → rem a 3 ≡ parity a
-rem-parity = half-ind (unfold rem ones in refl)
+rem-parity =
+    half-ind (rem-zero 3 ∙ unfold ones in refl)
     (λ a ih.
     ap (λ n. rem n 3) (sym (halves a))
-    ∙ rw (rem-⊕ 3 (omega arith), rem-double 3 (omega arith), ih) (next (lowest a) (lowest (ones (a / 2))) ∙ omega (arith, ones-step a)))
+    ∙ rw (rem-⊕ 3 (omega arith), by-other-double, ih, by-other-digit (lowest a)) (digits-sum (lowest a) (lowest (ones (a / 2))) ∙ omega (arith, ones-step a)))
 
 power-leaves-one : (e : ℕ) → rem (2 ^ e) 3 ≡ 1
 power-leaves-one zero = rem-one 3 (omega arith)
-power-leaves-one (suc e) = rw (rem-power-suc 3 (omega arith), power-leaves-one e) (unfold rem in refl)
+power-leaves-one (suc e) = rw (pow-succ', by-other-double) (power-leaves-one e)
 
 pub even-parity-not-primitive : (m p : ℕ) → 2 ≤ m → HasDegree p m → parity p ≡ 0 → primitive m p ≡ false
 even-parity-not-primitive m p h d even = truth-false (primitive m p) (λ t. clash (full-cycle m p (omega arith) d t 3 (omega arith) (omega (arith, pow-mono h))))
