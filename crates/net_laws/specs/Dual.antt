@@ -12,8 +12,8 @@ use Rattle.definitions.specs.Number.{count, bit}
 use Rattle.definitions.specs.Polynomial.{_⊕_, degree, prod, power, quot, rem}
 use Rattle.definitions.specs.Points.{leading, coordinate}
 use Rattle.polynomial_laws.specs.Sum.{⊕-double, ⊕-shr, ⊕-equal, ⊕-lt}
-use Rattle.polynomial_laws.specs.Division.{timesX, timesX-rem, rem-lt, rem-small, rem-⊕, rem-double, quot-small}
-use Rattle.polynomial_laws.specs.Product.{⊕-prod, prod-⊕, prod-comm, prod-assoc, prod-one, one-prod, double-prod, quot-double, rem-prod-left, rem-prod-right}
+use Rattle.polynomial_laws.specs.Product.{⊕-prod, prod-⊕, prod-comm, prod-assoc, prod-one, one-prod, double-prod}
+use Rattle.polynomial_laws.specs.Division.{rem-lt, rem-small, rem-⊕, rem-double, quot-small, quot-double, rem-prod-left, rem-prod-right}
 use Rattle.polynomial_laws.specs.Power.{power-prod, power-zero, power-suc}
 use Rattle.number_laws.specs.Count.{count-permute}
 use Rattle.net_laws.specs.Parity.{unlike, unlike-self, Linear, odd, odd-bit, odd-⊕, parity, parity-comm, rowFor, rowFor-parity, rowFor-lt}
@@ -50,11 +50,8 @@ module _ (p : ℕ) (pos : 0 < p) where
   digitRow-lt q j i = rw digitRow-def (rem-lt p pos (prod (2 ^ i) (power q j)))
 
   -- one more x
-  pub digitRow-suc : (q j i : ℕ) → digitRow p q j (suc i) ≡ timesX p (digitRow p q j i)
-  digitRow-suc q j i = rw (digitRow-def p q j (suc i), digitRow-def p q j i, pow-succ' 2 i, double-prod) (rem-double p pos (prod (2 ^ i) (power q j)))
-
   pub digitRow-double : (q j i : ℕ) → digitRow p q j (suc i) ≡ rem (2 * digitRow p q j i) p
-  digitRow-double q j i = digitRow-suc q j i ∙ timesX-rem p pos (digitRow p q j i) (digitRow-lt q j i)
+  digitRow-double q j i = rw (digitRow-def p q j (suc i), digitRow-def p q j i, pow-succ' 2 i, double-prod) (rem-double p pos (prod (2 ^ i) (power q j)))
 
   -- one more q
   pub digitRow-next : (q j : ℕ) → digitRow p q (suc j) 0 ≡ rem (prod q (digitRow p q j 0)) p

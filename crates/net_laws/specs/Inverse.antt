@@ -14,8 +14,8 @@ use lib.ListN.{length, length-append}
 use Rattle.definitions.specs.Number.{count}
 use Rattle.definitions.specs.Polynomial.{degree, prod, power, rem}
 use Rattle.definitions.specs.Points.{coordinate}
-use Rattle.polynomial_laws.specs.Division.{rem-lt, rem-small}
-use Rattle.polynomial_laws.specs.Product.{prod-comm, prod-assoc, one-prod, rem-prod-left, rem-prod-right}
+use Rattle.polynomial_laws.specs.Product.{prod-comm, prod-assoc, one-prod}
+use Rattle.polynomial_laws.specs.Division.{rem-lt, rem-small, rem-prod-left, rem-prod-right}
 use Rattle.polynomial_laws.specs.Power.{power-suc}
 use Rattle.number_laws.specs.Count.{count-ext, count-permute}
 use Rattle.net_laws.specs.Parity.{odd, parity}
