@@ -4,7 +4,7 @@
 use mathlib.Core.Path.{_≡_, refl, sym, ap, _∙_}
 use mathlib.Core.Bool.{Bool, true, false}
 use mathlib.Core.List.{List, [], _∷_, _++_, map, List·Memᴰ, List·Nodup, Memᴰ·map, Memᴰ·of-map, Memᴰ·cast}
-use Prim.Native.Nat.{ℕ, suc, _+_, _-_, _≤_}
+use Prim.Native.Nat.{ℕ, suc, _-_, _≤_}
 use native.Mathlib.Omega.{arith}
 use lib.ListN.{length, drop}
 use lib.Seq.{drop-at}
@@ -16,7 +16,7 @@ use Rattle.definitions.specs.Ranking.{leastTop, rowWidth, tValues, row, rowKey,
 use Rattle.number_laws.specs.Lists.{numbers-length, keep-in, keep-out, keep-once, map-once}
 use Rattle.fraction_laws.specs.Tree.{tree-sound, tree-complete, tree-once}
 use Rattle.order_laws.specs.Accepted.{accepted-is}
-use Rattle.page_laws.specs.Insertion.{Distinct, distinct-once, sort-same}
+use Rattle.page_laws.specs.Insertion.{sort-same}
 use Rattle.page_laws.specs.Rows.{Wide}
 use Rattle.ranking_laws.specs.Pairs.{allPairs-in, allPairs-out, allPairs-once}
 
@@ -54,15 +54,6 @@ tValues-length m top p q = map-length (tValue m p q) (numbers leastTop (suc top 
 
 pub row-length : (m top p q : ℕ) → leastTop ≤ top → length (row m top p q) ≡ rowWidth top
 row-length m top p q h = rw (row-def m top p q) (omega (arith, tValues-length m top p q))
-
-wide-map : (m top : ℕ) → leastTop ≤ top → (l : List Pair) → Wide (rowWidth top) (map (rowOf m top) l)
-unfolding Wide
-wide-map m top h [] = tt
-wide-map m top h (s ∷ l) = (row-length m top (s .p) (s .q) h, wide-map m top h l)
-
-pub met-wide : (m top : ℕ) → leastTop ≤ top → (l : List Pair) → Wide (rowWidth top) (met m top l)
-unfolding met
-met-wide m top h l = wide-map m top h (keep (isAccepted m) l)
 
 -- ---- lists of pairs taken apart
 
@@ -116,6 +107,9 @@ met-out m top l r i =
     let j = keep-out (isAccepted m) l (k .1) in
     record { pair = k .0; listed = j .0; passes = j .1; is = k .2 }
 
+pub met-wide : (m top : ℕ) → leastTop ≤ top → (l : List Pair) → Wide (rowWidth top) (met m top l)
+met-wide m top h l r i = let a = met-out m top l r i in rw (← a .is) (row-length m top (a .pair .p) (a .pair .q) h)
+
 -- ---- keys tell pairs apart
 
 pub row-key-apart : (m top : ℕ) (s t : Pair) → rowKey (row m top (s .p) (s .q)) ≡ rowKey (row m top (t .p) (t .q)) → s ≡ t
@@ -129,14 +123,14 @@ row-key-apart m top s t e =
     let second : s .q ≡ t .q = cc in
     λ i. record { p = first i; q = second i }
 
-pub met-distinct : (m top : ℕ) (l : List Pair) → List·Nodup l → Distinct rowKey (met m top l)
-met-distinct m top l n =
-    distinct-once rowKey (met m top l)
-    (unfold met in map-once (rowOf m top) (keep (isAccepted m) l) (λ s t u v e. row-key-apart m top s t (ap rowKey e)) (keep-once (isAccepted m) l n))
+pub met-once : (m top : ℕ) (l : List Pair) → List·Nodup l → List·Nodup (map rowKey (met m top l))
+met-once m top l n =
+    map-once rowKey (met m top l)
     (λ x y u v e.
     let a = met-out m top l x u in
     let b = met-out m top l y v in
     sym (a .is) ∙ ap (rowOf m top) (row-key-apart m top (a .pair) (b .pair) (ap rowKey (a .is) ∙ e ∙ sym (ap rowKey (b .is)))) ∙ b .is)
+    (unfold met in map-once (rowOf m top) (keep (isAccepted m) l) (λ s t u v e. row-key-apart m top s t (ap rowKey e)) (keep-once (isAccepted m) l n))
 
 -- ---- the tree has them all
 
@@ -157,6 +151,6 @@ all-met-tree m top r i =
 -- The rows met on the tree, sorted, are the ranked list.
 pub tree-ranked : (m top : ℕ) → 1 ≤ m → sort rowKey (met m top (tree m)) ≡ ranked m top
 tree-ranked m top h =
-    sort-same rowKey (met m top (tree m)) (met m top (allPairs m)) (met-distinct m top (tree m) (tree-once m))
-    (met-distinct m top (allPairs m) (allPairs-once m)) (tree-met-all m top h) (all-met-tree m top)
+    sort-same rowKey (met m top (tree m)) (met m top (allPairs m)) (met-once m top (tree m) (tree-once m))
+    (met-once m top (allPairs m) (allPairs-once m)) (tree-met-all m top h) (all-met-tree m top)
     ∙ sym (ranked-def m top)

@@ -14,7 +14,7 @@ use borrow.Author.Tests.{le-ltb, ltb-true, leb-true}
 use Rattle.definitions.specs.Number.{join}
 use Rattle.definitions.specs.Answers.{unless}
 use Rattle.definitions.specs.Generator.{lawfulDegree, wellFormed, accepted}
-use Rattle.definitions.specs.Pages.{Place, after, above, rest, page, more, laid}
+use Rattle.definitions.specs.Pages.{Place, after, rest, page, more, laid}
 use Rattle.definitions.specs.Ranking.{lawfulTop, leastTop, largestTop, rowWidth, row, rowKey, ranked, placeOf}
 use Rattle.definitions.specs.Calls.{paging, positionSituations, pairSituations, pageRows, furtherRow, pageAnswer, pageSlice}
 use Rattle.definitions.specs.Honest.{unless-both}
@@ -23,9 +23,8 @@ use Rattle.definitions.specs.declared.Position.{Position}
 use Rattle.definitions.specs.declared.Position.the-variants.{Start, After}
 use Rattle.definitions.specs.declared.PageRequest.{PageRequest}
 use Rattle.definitions.specs.declared.PageAnswer.the-variants.{Page, NoPage}
-use Rattle.number_laws.specs.Lists.{keep-out}
 use Rattle.order_laws.specs.Accepted.{accepted-is}
-use Rattle.page_laws.specs.Slot.{take-member}
+use Rattle.page_laws.specs.Members.{page-out}
 use Rattle.page_laws.specs.Rows.{rowsOf, laid-rows}
 use Rattle.page_laws.specs.Search.{wide-page}
 use Rattle.page_laws.specs.Walk.{behind, Walk, ends, goes, walk-ends, walk-whole}
@@ -75,11 +74,6 @@ module _ (m top : ℕ) where
       ap₂ (row m top) (ap (λ (l : List ℕ). getD l 0 0) (e ∙ row-def m top (k .pair .p) (k .pair .q)))
       (ap (λ (l : List ℕ). getD l 1 0) (e ∙ row-def m top (k .pair .p) (k .pair .q)))
       ∙ k .is
-
-  page-listed : (at : Place) (k : ℕ) (r : List ℕ) → List·Memᴰ r (page rowKey at k (ranked m top)) → List·Memᴰ r (ranked m top)
-  unfolding page rest
-  page-listed at k r i =
-      keep-out (λ (x : List ℕ). above at (rowKey x)) (ranked m top) (take-member rowKey k (rest rowKey at (ranked m top)) r i) .0
 
   place-last : (at : Place) (rows : List (List ℕ)) → 1 ≤ length rows → ((r : List ℕ) → List·Memᴰ r rows → RankedRow m top r)
       → placeOf m top (afterLast rows) ≡ behind rowKey at rows
@@ -148,7 +142,7 @@ module _ (m top : ℕ) where
 
     ranked-rows : (at : Position) (i : ℕ) (r : List ℕ) → List·Memᴰ r (rowsAt at i) → RankedRow m top r
     unfolding rowsAt
-    ranked-rows at i r k = ranked-out m top r (page-listed (placeOf m top at) (cap i) r k)
+    ranked-rows at i r k = ranked-out m top r (page-out rowKey (placeOf m top at) (cap i) (ranked m top) k .0)
 
     -- A page that is followed by another has a row.
     some-row : (at : Position) (i : ℕ) → more rowKey (placeOf m top at) (cap i) (ranked m top) ≡ true → 1 ≤ length (rowsAt at i)
@@ -201,10 +195,10 @@ module _ (m top : ℕ) where
     pub session-ends : (ps : List (List (List ℕ))) × Session m top lent Start 0 ps
     unfolding placeOf
     session-ends =
-        let w = walk-ends rowKey cap cap-full (ranked m top) (ranked-ascends m top) in
+        let w = walk-ends rowKey (ranked m top) (ranked-ascends m top) cap cap-full in
         (w .0, sessions (w .1) Start refl lawful-start)
 
     -- The rows read in each session from the start, joined, are the ranked list, and it asks for at most one page more than there are rows.
     pub session-whole : {ps : List (List (List ℕ))} → Session m top lent Start 0 ps → (length ps ≤ length (ranked m top) + 1) × (join ps ≡ ranked m top)
     unfolding placeOf
-    session-whole s = walk-whole rowKey cap cap-full (ranked m top) (ranked-ascends m top) (walks s)
+    session-whole s = walk-whole rowKey (ranked m top) (ranked-ascends m top) cap cap-full (walks s)
