@@ -12,7 +12,7 @@ use Rattle.definitions.specs.Polynomial.{prod, power}
 use Rattle.definitions.specs.Generator.{period, accepted}
 use Rattle.definitions.specs.Points.{leading, state, wordDigits, word, coordinate}
 use Rattle.polynomial_laws.specs.Degree.{HasDegree}
-use Rattle.polynomial_laws.specs.Product.{rem-prod-left}
+use Rattle.polynomial_laws.specs.Division.{rem-prod-left}
 use Rattle.polynomial_laws.specs.Power.{power-add}
 use Rattle.order_laws.specs.Cycle.{degree-big}
 use Rattle.order_laws.specs.State.{state-power}

@@ -13,10 +13,9 @@ use Rattle.definitions.specs.Polynomial.{prod, rem}
 use Rattle.definitions.specs.Net.{tValue}
 use Rattle.definitions.specs.Ranking.{tValues}
 use Rattle.number_laws.specs.Lists.{numbers-length}
-use Rattle.polynomial_laws.specs.Product.{one-prod}
-use Rattle.polynomial_laws.specs.Power.{power-zero, rem-one, rem-power-next}
+use Rattle.polynomial_laws.specs.Power.{power-zero, rem-one}
 use Rattle.polynomial.specs.Modulus.{Modulus, modulus-positive, modulus-one}
-use Rattle.net_laws.specs.Share.{digitRow, digitRow-first}
+use Rattle.net_laws.specs.Share.{digitRow, digitRow-first, digitRow-next}
 use Rattle.net.specs.Search.{Residues, Powers, newest}
 
 pub set-each : (Q : ℕ → ℕ → Type 0) (xs : List ℕ) (j v : ℕ) → j < length xs → Q j v → (i : ℕ) → ((i ≡ j → ⊥) → Q i (getD xs i 0)) → Q i (getD (set xs j v) i 0)
@@ -42,7 +41,7 @@ module _ {p top : ℕ} (h : Modulus p top) where
   powers-more q (suc j) v xs low fits e known i l =
       let before : suc j - 1 ≡ j = omega arith in
       set-each (λ i x. x ≡ digitRow p q i 0) xs (suc j) v fits
-      (e ∙ rw (before, known j (omega arith), digitRow-first p q j, digitRow-first p q (suc j)) (sym (rem-power-next p (modulus-positive h) q j)))
+      (e ∙ rw (before, known j (omega arith)) (sym (digitRow-next p (modulus-positive h) q j)))
       i (λ n. known i (omega arith))
 
   pub residues-more : (j v : ℕ) (xs : List ℕ) → j < length xs → v < top → Residues top xs → Residues top (set xs j v)

@@ -10,14 +10,14 @@ use lib.Arith.{lt-one}
 use lib.Bits.{xor-mod}
 use Rattle.definitions.specs.Polynomial.{_⊕_}
 use Rattle.polynomial_laws.specs.Sum.{⊕-def, ⊕-self, ⊕-shr, ⊕-sums}
-use Rattle.polynomial_laws.specs.Degree.{HasDegree, power-degree, shifted, top-cancels}
+use Rattle.polynomial_laws.specs.Degree.{HasDegree, power-degree, leading-one, top-cancels}
 
 abbrev pub Additive : (ℕ → ℕ) → Type 0
 Additive f = (a b : ℕ) → f (a ⊕ b) ≡ f a ⊕ f b
 
 -- The digit of v at place k.
-unfoldable pub digit : ℕ → ℕ → ℕ
-digit k v = v / 2 ^ k % 2
+unfoldable pub digitAt : ℕ → ℕ → ℕ
+digitAt k v = v / 2 ^ k % 2
 
 pub nothing-additive : Additive (λ a. 0)
 nothing-additive a b = sym (⊕-self 0)
@@ -36,22 +36,22 @@ additive-agree f g f-sums g-sums (suc d) powers v small = at (decLt v (2 ^ d)) (
         let top : HasDegree v d = record { least = omega arith; most = omega (arith, pow-suc 2 d) } in
         let rest = v ⊕ 2 ^ d in
         let back : rest ⊕ 2 ^ d ≡ v = simp ⊕-sums in
-        ap f (sym back) ∙ f-sums rest (2 ^ d) ∙ ap₂ _⊕_ (below rest (top-cancels v (2 ^ d) d top (power-degree d))) (powers d (omega arith))
+        ap f (sym back) ∙ f-sums rest (2 ^ d) ∙ ap₂ _⊕_ (below rest (top-cancels top (power-degree d))) (powers d (omega arith))
         ∙ sym (g-sums rest (2 ^ d)) ∙ ap g back
 
 -- ---- the digit at a place
-pub digit-lt : (k v : ℕ) → digit k v < 2
-unfolding digit
-digit-lt k v = omega arith
+pub digitAt-lt : (k v : ℕ) → digitAt k v < 2
+unfolding digitAt
+digitAt-lt k v = omega arith
 
-pub digit-additive : (k : ℕ) → Additive (digit k)
-unfolding digit
-digit-additive k a b = rw (⊕-shr a b k, ⊕-def (a / 2 ^ k) (b / 2 ^ k), ⊕-def) (xor-mod (a / 2 ^ k) (b / 2 ^ k) 1)
+pub digitAt-additive : (k : ℕ) → Additive (digitAt k)
+unfolding digitAt
+digitAt-additive k a b = rw (⊕-shr a b k, ⊕-def (a / 2 ^ k) (b / 2 ^ k), ⊕-def) (xor-mod (a / 2 ^ k) (b / 2 ^ k) 1)
 
-pub digit-small : (k v : ℕ) → v < 2 ^ k → digit k v ≡ 0
-unfolding digit
-digit-small k v small = rw (div-eq-of-lt small)
+pub digitAt-small : (k v : ℕ) → v < 2 ^ k → digitAt k v ≡ 0
+unfolding digitAt
+digitAt-small k v small = rw (div-eq-of-lt small)
 
-pub digit-leading : (k v : ℕ) → HasDegree v k → digit k v ≡ 1
-unfolding digit
-digit-leading k v top = rw (shifted v k top)
+pub digitAt-leading : (k v : ℕ) → HasDegree v k → digitAt k v ≡ 1
+unfolding digitAt
+digitAt-leading k v top = rw (leading-one top)

@@ -17,11 +17,12 @@ use lib.Pow.{pow-mono, pow-lt, pow-pos}
 use borrow.Author.Tests.{eqb-true, eq-eqb}
 use Rattle.definitions.specs.Number.{count}
 use Rattle.definitions.specs.Polynomial.{_⊕_, degree}
-use Rattle.polynomial_laws.specs.Sum.{⊕-comm, ⊕-zero, ⊕-lt, ⊕-injective, digit-cases}
+use Rattle.polynomial_laws.specs.Digits.{Digit, off, on, digit}
+use Rattle.polynomial_laws.specs.Sum.{⊕-comm, ⊕-zero, ⊕-lt, ⊕-injective}
 use Rattle.polynomial_laws.specs.Degree.{degree-is, degree-least}
 use Rattle.number_laws.specs.Truth.{truth-equal}
 use Rattle.number_laws.specs.Count.{count-ext, count-all, count-split, count-permute}
-use Rattle.net_laws.specs.Additive.{Additive, nothing-additive, additive-agree, digit, digit-lt, digit-additive, digit-small, digit-leading}
+use Rattle.net_laws.specs.Additive.{Additive, nothing-additive, additive-agree, digitAt, digitAt-lt, digitAt-additive, digitAt-small, digitAt-leading}
 use Rattle.net_laws.specs.Reduction.{reduced, Each, each-map, reduce, basis, reduce-additive, reduce-le, reduced-rows, reduced-unseen}
 use Rattle.net_laws.specs.Pairing.{pairing, pairing-lt, pairing-additive, pairing-additive-left, pairing-zero, partner, partner-lt, partner-pairs}
 
@@ -49,11 +50,12 @@ abbrev pub passing : ℕ → (ℕ → Bool) → ℕ
 passing p T = count (2 ^ degree p) T
 
 -- the other digit
-eqb-turned : (a c : ℕ) → a < 2 → c < 2 → eqb (a ⊕ 1) c ≡ not (eqb a c)
+eqb-turned : {a c : ℕ} → Digit a → Digit c → eqb (a ⊕ 1) c ≡ not (eqb a c)
 unfolding _⊕_
-eqb-turned a c ha hc =
-    digit-cases (λ a. eqb (a ⊕ 1) c ≡ not (eqb a c)) (digit-cases (λ c. eqb 1 c ≡ not (eqb 0 c)) refl refl c hc)
-    (digit-cases (λ c. eqb 0 c ≡ not (eqb 1 c)) refl refl c hc) a ha
+eqb-turned off off = refl
+eqb-turned off on = refl
+eqb-turned on off = refl
+eqb-turned on on = refl
 
 twice : (a b n : ℕ) → a * 2 ≡ b → a * 2 ^ suc n ≡ b * 2 ^ n
 twice a b n e = rw (pow-suc 2 n) (omega (arith, ap (λ (x : ℕ). x * 2 ^ n) e))
@@ -73,7 +75,7 @@ module _ (p : ℕ) (pos : 0 < p) where
         let n = 2 ^ degree p in
         let is : ℕ → Bool = λ h. eqb (pairing p r h) (q .asked) in
         let turned : (h : ℕ) → is (h ⊕ v) ≡ not (is h) = λ h. ap (λ (x : ℕ). eqb x (q .asked)) (pairing-additive p pos r h v
-        ∙ ap (λ (x : ℕ). pairing p r h ⊕ x) turns) ∙ eqb-turned (pairing p r h) (q .asked) (pairing-lt p pos r h) (q .binary) in
+        ∙ ap (λ (x : ℕ). pairing p r h ⊕ x) turns) ∙ eqb-turned (digit _ (pairing-lt p pos r h)) (digit _ (q .binary)) in
         let here : count n T ≡ count n (λ h. P h && is h) = count-ext n T _ (λ h l. q .says h ∙ and-comm (is h) (P h)) in
         let there : count n (λ h. T (h ⊕ v)) ≡ count n (λ h. P h && not (is h)) =
         count-ext n _ _ (λ h l. q .says (h ⊕ v) ∙ ap₂ _&&_ (turned h) (keep h) ∙ and-comm (not (is h)) (P h)) in
@@ -100,14 +102,14 @@ module _ (p : ℕ) (pos : 0 < p) where
       → passing p T * 2 ≡ passing p P
   cell-half {d} {r} {rs} new c q =
       let k = degree (reduced rs r) in
-      let f : ℕ → ℕ = λ x. digit k (reduced rs x) in
-      let sums : Additive f = λ a b. ap (digit k) (reduce-additive (basis rs) a b) ∙ digit-additive k (reduced rs a) (reduced rs b) in
-      let binary : (x : ℕ) → f x < 2 = λ x. digit-lt k (reduced rs x) in
+      let f : ℕ → ℕ = λ x. digitAt k (reduced rs x) in
+      let sums : Additive f = λ a b. ap (digitAt k) (reduce-additive (basis rs) a b) ∙ digitAt-additive k (reduced rs a) (reduced rs b) in
+      let binary : (x : ℕ) → f x < 2 = λ x. digitAt-lt k (reduced rs x) in
       let v = partner p pos f sums binary in
       let pairs = partner-pairs p pos f sums binary in
-      let low : (x : ℕ) → reduced rs x < 2 ^ d → f x ≡ 0 = λ x l. digit-small k (reduced rs x) (omega (arith, pow-mono (degree-least (reduced rs r) d new))) in
+      let low : (x : ℕ) → reduced rs x < 2 ^ d → f x ≡ 0 = λ x l. digitAt-small k (reduced rs x) (omega (arith, pow-mono (degree-least (reduced rs r) d new))) in
       asks-half q v (partner-lt p pos f sums binary)
-      (pairs r (q .small) ∙ digit-leading k (reduced rs r) (degree-is (reduced rs r) (omega (arith, pow-pos d))))
+      (pairs r (q .small) ∙ digitAt-leading k (reduced rs r) (degree-is (reduced rs r) (omega (arith, pow-pos d))))
       (kept c v f pairs (each-map (λ x. reduced rs x ≡ 0) (λ x. f x ≡ 0) (λ x e. low x (omega (arith, pow-pos d))) rs (reduced-rows rs))
       (λ i l. low (2 ^ i) (omega (arith, reduce-le (basis rs) (2 ^ i), pow-lt l))))
 

@@ -14,8 +14,8 @@ use Rattle.definitions.specs.Polynomial.{degree, prod, power, rem}
 use Rattle.definitions.specs.Points.{leading, coordinate}
 use Rattle.definitions.specs.Net.{inBox}
 use Rattle.number_laws.specs.Count.{count-ext, count-permute}
-use Rattle.polynomial_laws.specs.Division.{rem-lt, rem-small}
-use Rattle.polynomial_laws.specs.Product.{prod-comm, prod-assoc, one-prod, rem-prod-left, rem-prod-right}
+use Rattle.polynomial_laws.specs.Product.{prod-comm, prod-assoc, one-prod}
+use Rattle.polynomial_laws.specs.Division.{rem-lt, rem-small, rem-prod-left, rem-prod-right}
 use Rattle.polynomial_laws.specs.Power.{power-suc}
 use Rattle.net_laws.specs.Cell.{Free, passing}
 use Rattle.net_laws.specs.Net.{total, Box, none, more}

@@ -9,7 +9,8 @@ use native.Mathlib.Omega.{arith}
 use native.Mathlib.Decide.{ℕ-discrete}
 use lib.Pow.{pow-pos, pow-lt}
 use Rattle.definitions.specs.Polynomial.{_⊕_, degree, prod, rem}
-use Rattle.polynomial_laws.specs.Sum.{⊕-zero, ⊕-double, ⊕-shr, ⊕-lt, ⊕-bit, ⊕-sums, digit-cases}
+use Rattle.polynomial_laws.specs.Digits.{Digit, off, on, digit, digit-mul-le}
+use Rattle.polynomial_laws.specs.Sum.{⊕-zero, ⊕-double, ⊕-shr, ⊕-lt, ⊕-sums}
 use Rattle.polynomial_laws.specs.Division.{rem-small, rem-⊕, next-digit}
 use Rattle.polynomial_laws.specs.Product.{prod-⊕, prod-comm}
 use Rattle.polynomial_laws.specs.Power.{powers-prod}
@@ -50,8 +51,9 @@ module _ (p : ℕ) (pos : 0 < p) where
   pairing-leading i j e = pairing-powers i j (omega arith) ∙ ap (λ (z : ℕ). 2 ^ z / 2 ^ degree p) e ∙ div-self (pow-pos (degree p))
 
   -- ---- every additive function of digits is a pairing
-  pairing-digit : (c r v : ℕ) → c < 2 → pairing p r (c * v) ≡ c * pairing p r v
-  pairing-digit c r v = digit-cases (λ c. pairing p r (c * v) ≡ c * pairing p r v) (simp zero-mul (pairing-zero r)) (simp one-mul) c
+  pairing-digit : {c : ℕ} → Digit c → (r v : ℕ) → pairing p r (c * v) ≡ c * pairing p r v
+  pairing-digit off r v = simp zero-mul (pairing-zero r)
+  pairing-digit on r v = simp one-mul
 
   module _ (f : ℕ → ℕ) (sums : Additive f) (binary : (v : ℕ) → f v < 2) where
     -- paired with 1, x, .. x^(k-1) this gives what f does
@@ -59,8 +61,8 @@ module _ (p : ℕ) (pos : 0 < p) where
     upto zero = 0
     upto (suc k) = upto k ⊕ (f (2 ^ k) ⊕ pairing p (2 ^ k) (upto k)) * 2 ^ (degree p - suc k)
 
-    wanting : (k : ℕ) → f (2 ^ k) ⊕ pairing p (2 ^ k) (upto k) < 2
-    wanting k = ⊕-bit (f (2 ^ k)) (pairing p (2 ^ k) (upto k)) (binary (2 ^ k)) (pairing-lt (2 ^ k) (upto k))
+    wanting : (k : ℕ) → Digit (f (2 ^ k) ⊕ pairing p (2 ^ k) (upto k))
+    wanting k = digit _ (⊕-lt 1 (f (2 ^ k)) (pairing p (2 ^ k) (upto k)) (binary (2 ^ k)) (pairing-lt (2 ^ k) (upto k)))
 
     upto-lt : (k : ℕ) → k ≤ degree p → upto k < 2 ^ degree p
     unfolding upto
@@ -68,12 +70,12 @@ module _ (p : ℕ) (pos : 0 < p) where
     upto-lt (suc k) l =
         let place = degree p - suc k in
         let high : 2 ^ place < 2 ^ degree p = pow-lt (omega arith) in
-        ⊕-lt (degree p) (upto k) _ (upto-lt k (omega arith)) (digit-cases (λ c. c * 2 ^ place < 2 ^ degree p) (omega arith) (omega arith) _ (wanting k))
+        ⊕-lt (degree p) (upto k) _ (upto-lt k (omega arith)) (omega (arith, digit-mul-le (wanting k) (2 ^ place)))
 
     upto-pairs : (k : ℕ) → k ≤ degree p → (i : ℕ) → i < k → pairing p (2 ^ i) (upto k) ≡ f (2 ^ i)
     unfolding upto
     upto-pairs zero l i b = absurd (omega arith)
-    upto-pairs (suc k) l i b = pairing-additive (2 ^ i) (upto k) _ ∙ ap (λ (z : ℕ). pairing p (2 ^ i) (upto k) ⊕ z) (pairing-digit _ (2 ^ i) (2 ^ place) (wanting k)) ∙ at (ℕ-discrete i k) (upto-pairs k (omega arith) i)
+    upto-pairs (suc k) l i b = pairing-additive (2 ^ i) (upto k) _ ∙ ap (λ (z : ℕ). pairing p (2 ^ i) (upto k) ⊕ z) (pairing-digit (wanting k) (2 ^ i) (2 ^ place)) ∙ at (ℕ-discrete i k) (upto-pairs k (omega arith) i)
       where
         place : ℕ
         place = degree p - suc k

@@ -8,11 +8,13 @@ use Prim.Native.Nat.{ℕ, zero, suc, _+_, _*_, _/_, _%_, _^_, _≤_, _<_, min}
 use native.Mathlib.Nat.{zero-mul, one-mul, mul-zero, lt-of-not-le}
 use native.Mathlib.Omega.{arith}
 use native.Mathlib.Decide.{decLt}
+use lib.Bits.{xor-add-and, and-mask}
 use lib.Pow.{shr-mono}
 use Rattle.definitions.specs.Polynomial.{_⊕_, degree}
-use Rattle.polynomial_laws.specs.Sum.{by-digit, ⊕-digit, ⊕-self, ⊕-zero, ⊕-shr, ⊕-swap, ⊕-mul-digit, digit-cases}
-use Rattle.polynomial_laws.specs.Degree.{degree-is, shifted}
-use Rattle.net_laws.specs.Additive.{Additive, digit, digit-lt, digit-additive}
+use Rattle.polynomial_laws.specs.Digits.{Digit, off, on, lowest}
+use Rattle.polynomial_laws.specs.Sum.{⊕-def, ⊕-self, ⊕-zero, ⊕-shr, ⊕-swap, lowest-mul}
+use Rattle.polynomial_laws.specs.Degree.{degree-is, leading-one}
+use Rattle.net_laws.specs.Additive.{Additive}
 
 -- ---- definitions
 
@@ -50,31 +52,31 @@ min-either Q a b at-a at-b = go (decLt a b)
 -- ---- one vector
 -- adding 1 turns the last digit
 ⊕-one : (u : ℕ) → (u ⊕ 1) + 2 * (u % 2) ≡ u + 1
-unfolding _⊕_
-⊕-one = by-digit (λ u. (u ⊕ 1) + 2 * (u % 2) ≡ u + 1) (λ a c l. omega (arith, ⊕-digit a 0 c 1 l (omega arith), ⊕-zero a, turned c l))
-  where
-    turned : (c : ℕ) → c < 2 → (c ⊕ 1) + 2 * c ≡ c + 1
-    turned = digit-cases (λ c. (c ⊕ 1) + 2 * c ≡ c + 1) refl refl
+⊕-one u = rw ⊕-def (omega (arith, xor-add-and u 1, and-mask u 1))
 
 -- the smaller one is that without the digit at the degree of b
-reduceBy-clears : (b v : ℕ) → reduceBy b v ≡ v ⊕ digit (degree b) v * b
-unfolding reduceBy digit
+reduceBy-clears : (b v : ℕ) → reduceBy b v ≡ v ⊕ v / 2 ^ degree b % 2 * b
+unfolding reduceBy
 reduceBy-clears zero v = simp (mul-zero, ⊕-zero) (omega arith)
-reduceBy-clears (suc b) v =
-    let k = degree (suc b) in
-    let u = v / 2 ^ k in
-    let shift : (v ⊕ suc b) / 2 ^ k ≡ u ⊕ 1 = ⊕-shr v (suc b) k ∙ ap (λ (z : ℕ). u ⊕ z) (shifted (suc b) k (degree-is (suc b) (omega arith))) in
-    let by-shift : (x y : ℕ) → x / 2 ^ k < y / 2 ^ k → x < y = λ x y l. lt-of-not-le λ (n : y ≤ x). omega (arith, shr-mono k n) in
-    digit-cases (λ c. u % 2 ≡ c → min v (v ⊕ suc b) ≡ v ⊕ c * suc b)
-    (λ even. simp (zero-mul, ⊕-zero) (omega (arith, by-shift v (v ⊕ suc b) (omega (arith, ⊕-one u)))))
-    (λ odd. simp one-mul (omega (arith, by-shift (v ⊕ suc b) v (omega (arith, ⊕-one u)))))
-    (u % 2) (omega arith) refl
+reduceBy-clears (suc b) v = go (lowest (v / 2 ^ k)) refl
+  where
+    k : ℕ
+    k = degree (suc b)
+
+    shift : (v ⊕ suc b) / 2 ^ k ≡ v / 2 ^ k ⊕ 1
+    shift = ⊕-shr v (suc b) k ∙ ap (λ (z : ℕ). v / 2 ^ k ⊕ z) (leading-one (degree-is (suc b) (omega arith)))
+
+    by-shift : (x y : ℕ) → x / 2 ^ k < y / 2 ^ k → x < y
+    by-shift x y l = lt-of-not-le λ (n : y ≤ x). omega (arith, shr-mono k n)
+
+    go : {c : ℕ} → Digit c → v / 2 ^ k % 2 ≡ c → min v (v ⊕ suc b) ≡ v ⊕ c * suc b
+    go off e = simp (zero-mul, ⊕-zero) (omega (arith, by-shift v (v ⊕ suc b) (omega (arith, shift, ⊕-one (v / 2 ^ k)))))
+    go on e = simp one-mul (omega (arith, by-shift (v ⊕ suc b) v (omega (arith, shift, ⊕-one (v / 2 ^ k)))))
 
 reduceBy-additive : (b : ℕ) → Additive (reduceBy b)
 reduceBy-additive b u v =
-    let c = digit (degree b) in
-    rw (reduceBy-clears b (u ⊕ v), reduceBy-clears b u, reduceBy-clears b v, digit-additive (degree b) u v, ⊕-mul-digit (c u) (c v) b (digit-lt (degree b) u) (digit-lt (degree b) v))
-    (⊕-swap u v (c u * b) (c v * b))
+    let k = degree b in
+    rw (reduceBy-clears b (u ⊕ v), reduceBy-clears b u, reduceBy-clears b v, ⊕-shr u v k, lowest-mul (u / 2 ^ k) (v / 2 ^ k) b) (⊕-swap u v (u / 2 ^ k % 2 * b) (v / 2 ^ k % 2 * b))
 
 -- ---- a list of vectors
 pub reduce-additive : (bs : List ℕ) → Additive (reduce bs)

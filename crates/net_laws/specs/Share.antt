@@ -18,9 +18,9 @@ use Rattle.definitions.specs.Polynomial.{degree, prod, power, quot, rem}
 use Rattle.definitions.specs.Points.{leading, coordinate}
 use Rattle.definitions.specs.Net.{inBox}
 use Rattle.number_laws.specs.Truth.{truth-equal}
-use Rattle.polynomial_laws.specs.Division.{rem-lt, rem-small, rem-zero, rem-double, timesX-rem, quot-zero}
-use Rattle.polynomial_laws.specs.Product.{prod-one, one-prod, double-prod, zero-prod, prod-factors, quot-double, rem-prod-left, rem-prod-right}
-use Rattle.polynomial_laws.specs.Power.{power-prod, power-zero}
+use Rattle.polynomial_laws.specs.Product.{prod-one, one-prod, double-prod, zero-prod, prod-factors}
+use Rattle.polynomial_laws.specs.Division.{rem-lt, rem-small, rem-zero, rem-double, rem-prod-left, rem-prod-right, quot-zero, quot-double}
+use Rattle.polynomial_laws.specs.Power.{power-prod, power-zero, power-suc}
 use Rattle.net_laws.specs.Pairing.{pairing, pairing-lt}
 use Rattle.net_laws.specs.Cell.{Free, Asks, Cell, whole, at-power, at-row, passing, cell-count, cell-free}
 use Rattle.net_laws.specs.Net.{total, Box, none, more, Net}
@@ -90,9 +90,12 @@ module _ (p : ℕ) (pos : 0 < p) where
   unfolding digitRow
   digitRow-lt q j i = rem-lt p pos (prod (2 ^ i) (power q j))
 
+  pub digitRow-next : (q j : ℕ) → digitRow p q (suc j) 0 ≡ rem (prod q (digitRow p q j 0)) p
+  digitRow-next q j = rw (digitRow-first p q (suc j), digitRow-first p q j, power-suc) (sym (rem-prod-right p pos q (power q j)))
+
   pub digitRow-suc : (q j i : ℕ) → digitRow p q j (suc i) ≡ rem (2 * digitRow p q j i) p
   unfolding digitRow
-  digitRow-suc q j i = rw (pow-succ' 2 i, double-prod) (rem-double p pos (prod (2 ^ i) (power q j)) ∙ timesX-rem p pos _ (rem-lt p pos (prod (2 ^ i) (power q j))))
+  digitRow-suc q j i = rw (pow-succ' 2 i, double-prod) (rem-double p pos (prod (2 ^ i) (power q j)))
 
   pub digitRow-power : (q i : ℕ) → i < degree p → digitRow p q 0 i ≡ 2 ^ i
   unfolding digitRow

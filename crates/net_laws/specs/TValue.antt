@@ -13,8 +13,6 @@ use lib.Pow.{pow-mono}
 use Rattle.definitions.specs.Polynomial.{degree, prod, power, rem}
 use Rattle.definitions.specs.Net.{tValue}
 use Rattle.polynomial_laws.specs.Degree.{HasDegree, degree-unique, positive}
-use Rattle.polynomial_laws.specs.Division.{timesX-rem, rem-double}
-use Rattle.polynomial_laws.specs.Product.{one-prod, double-prod}
 use Rattle.net_laws.specs.Cell.{Free}
 use Rattle.net_laws.specs.Net.{Net}
 use Rattle.net_laws.specs.Smallest.{tValue-smallest}
