@@ -1,21 +1,26 @@
--- Judging a pair of a lawful degree, and its outcome at each situation. Assumes nothing.
-use mathlib.Core.Path.{_≡_, refl, sym, _∙_}
-use mathlib.Core.Bool.{Bool, true, false}
+-- Judging a pair of a lawful degree, and what any call answers at each of a pair's situations. Assumes nothing.
+use mathlib.Core.Path.{_≡_, refl}
+use mathlib.Core.Bool.{true, false}
 use Prim.Native.Nat.{ℕ}
-use native.Mathlib.Omega.{arith}
 use lib.Dec.{eqb}
 use Rattle.definitions.specs.Answers.{unless}
 use Rattle.definitions.specs.Calls.{pairSituations, judging, judgement}
 use Rattle.definitions.specs.Number.{gcd}
 use Rattle.definitions.specs.Generator.{lawfulDegree, wellFormed, primitive, linearQuotients, coprimeStep, step, period}
+use Rattle.definitions.specs.declared.Refusal.{Refusal}
 use Rattle.definitions.specs.declared.Refusal.the-variants.{WrongDegree, IllFormedPair, NotPrimitive, QuotientNotLinear, StepNotCoprime}
 use Rattle.definitions.specs.declared.Judgement.{Judgement}
 use Rattle.definitions.specs.declared.Judgement.the-variants.{Accepted, Rejected}
+use Rattle.generator.specs.declared.pair.Verdict.{Verdict}
+use Rattle.generator.specs.declared.pair.Verdict.the-variants.{Refused, Passed}
 
 -- The judgement on a pair, its degree being lawful.
 unfoldable pub pairJudgement : ℕ → ℕ → ℕ → Judgement
-unfolding unless pairSituations step
 pairJudgement m p q = unless (pairSituations m p q) Rejected (Accepted (step m p q))
+
+-- The same without the step.
+unfoldable pub pairVerdict : ℕ → ℕ → ℕ → Verdict
+pairVerdict m p q = unless (pairSituations m p q) Refused Passed
 
 pub judgement-unlawful : (m p q : ℕ) → lawfulDegree m ≡ false → judgement m p q ≡ Rejected WrongDegree
 unfolding judgement judging unless
@@ -29,37 +34,46 @@ pub coprimeStep-def : (m p q : ℕ) → coprimeStep m p q ≡ eqb (gcd (step m p
 unfolding coprimeStep
 coprimeStep-def m p q = refl
 
-module _ (m p q : ℕ) where
-  pub ill-formed : wellFormed m p q ≡ false → pairJudgement m p q ≡ Rejected IllFormedPair
-  unfolding pairJudgement pairSituations unless
+-- None of the refusals 3, 4 and 5 applies.
+pub record Fit (m p q : ℕ) : Type 0 where
+  pub well-formed : wellFormed m p q ≡ true
+  pub primitive-p : primitive m p ≡ true
+  pub linear : linearQuotients p q ≡ true
+
+-- What the tests of these three say: what the pair is refused for, or that it is fit.
+unfoldable pub Checked : ℕ → ℕ → ℕ → Verdict → Type 0
+Checked m p q (Refused r) = pairVerdict m p q ≡ Refused r
+Checked m p q Passed = Fit m p q
+
+pub checked-refused : (m p q : ℕ) {v : Verdict} {r : Refusal} → Checked m p q v → v ≡ Refused r → pairVerdict m p q ≡ Refused r
+unfolding Checked
+checked-refused m p q h e = rw e at h
+
+pub checked-fit : (m p q : ℕ) {v : Verdict} → Checked m p q v → v ≡ Passed → Fit m p q
+unfolding Checked
+checked-fit m p q h e = rw e at h
+
+-- ---- an answer, at each situation
+
+module _ {A : Type 0} (refuse : Refusal → A) (value : A) (m p q : ℕ) where
+  pub ill-formed : wellFormed m p q ≡ false → unless (pairSituations m p q) refuse value ≡ refuse IllFormedPair
+  unfolding pairSituations unless
   ill-formed w = rw w
 
   module _ (w : wellFormed m p q ≡ true) where
-    pub not-primitive : primitive m p ≡ false → pairJudgement m p q ≡ Rejected NotPrimitive
-    unfolding pairJudgement pairSituations unless
+    pub not-primitive : primitive m p ≡ false → unless (pairSituations m p q) refuse value ≡ refuse NotPrimitive
+    unfolding pairSituations unless
     not-primitive t = rw (w, t)
 
-    module _ (t : primitive m p ≡ true) where
-      pub not-linear : linearQuotients p q ≡ false → pairJudgement m p q ≡ Rejected QuotientNotLinear
-      unfolding pairJudgement pairSituations unless
-      not-linear l = rw (w, t, l)
+    pub not-linear : primitive m p ≡ true → linearQuotients p q ≡ false → unless (pairSituations m p q) refuse value ≡ refuse QuotientNotLinear
+    unfolding pairSituations unless
+    not-linear t l = rw (w, t, l)
 
-      module _ (l : linearQuotients p q ≡ true) where
-        pub not-coprime : coprimeStep m p q ≡ false → pairJudgement m p q ≡ Rejected StepNotCoprime
-        unfolding pairJudgement pairSituations unless
-        not-coprime c = rw (w, t, l, c)
+  module _ (f : Fit m p q) where
+    pub not-coprime : coprimeStep m p q ≡ false → unless (pairSituations m p q) refuse value ≡ refuse StepNotCoprime
+    unfolding pairSituations unless
+    not-coprime c = rw (f .well-formed, f .primitive-p, f .linear, c)
 
-        pub accepted-pair : coprimeStep m p q ≡ true → pairJudgement m p q ≡ Accepted (step m p q)
-        unfolding pairJudgement pairSituations unless
-        accepted-pair c = rw (w, t, l, c)
-
--- What is accepted is well-formed.
-pub accepted-well-formed : (m p q n : ℕ) → pairJudgement m p q ≡ Accepted n → wellFormed m p q ≡ true
-accepted-well-formed m p q n e = go (wellFormed m p q) refl
-  where
-    go : (b : Bool) → wellFormed m p q ≡ b → wellFormed m p q ≡ true
-    go true t = t
-    go false t =
-        let clash : Accepted n ≡ Rejected IllFormedPair = sym e ∙ ill-formed m p q t in
-        let z : _≡_ {A = ℕ} 0 1 = cc in
-        absurd (omega arith)
+    pub all-pass : coprimeStep m p q ≡ true → unless (pairSituations m p q) refuse value ≡ value
+    unfolding pairSituations unless
+    all-pass c = rw (f .well-formed, f .primitive-p, f .linear, c)

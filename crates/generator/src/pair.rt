@@ -2,7 +2,7 @@
 ghost use mathlib.Core.Path.{_≡_};
 ghost use Rattle.definitions.specs.Generator.{wellFormed};
 ghost use Rattle.generator.specs.Lawful.{Lawful};
-ghost use Rattle.generator.specs.Judging.{pairJudgement};
+ghost use Rattle.generator.specs.Judging.{pairJudgement, pairVerdict, Checked};
 use crate::common_divisor;
 use crate::degrees;
 use crate::primitive;
@@ -10,6 +10,12 @@ use crate::step;
 use definitions::Judgement;
 use definitions::Refusal;
 use polynomial::fractions;
+
+// Why a pair is refused, or that it is not.
+pub enum Verdict {
+    Refused(Refusal),
+    Passed,
+}
 
 // 2^m ≤ p < 2^(m+1) and 1 ≤ q < 2^m.
 pub fn is_well_formed(m: u32, p: u32, q: u32) -> bool
@@ -29,24 +35,52 @@ pub fn is_well_formed(m: u32, p: u32, q: u32) -> bool
     q < top
 }
 
-// The step of a pair, or document 01's refusal 3, 4, 5 or 6: the tests in this order, so that the lowest number is given.
+// Document 01's refusal 3, 4 or 5, the tests in this order, so that the lowest number is given.
+fn check_polynomials(m: u32, p: u32, q: u32) -> Verdict
+    requires { ⌜ Lawful m ⌝ }
+    ensures { λ r. ⌜ Checked m p q r ⌝ }
+{
+    if !is_well_formed(m, p, q) {
+        return Verdict::Refused(Refusal::IllFormedPair);
+    }
+    if !primitive::is_primitive(m, p) {
+        return Verdict::Refused(Refusal::NotPrimitive);
+    }
+    if !fractions::linear_quotients(p, q, degrees::leading_term(m)) {
+        return Verdict::Refused(Refusal::QuotientNotLinear);
+    }
+    Verdict::Passed
+}
+
+// Refusal 3, 4, 5 or 6. Whether the step is coprime to 2^m - 1 is told by q's order, so that nobody looks for the step.
+pub fn check_pair(m: u32, p: u32, q: u32) -> Verdict
+    requires { ⌜ Lawful m ⌝ }
+    ensures { λ r. ⌜ r ≡ pairVerdict m p q ⌝ }
+{
+    match check_polynomials(m, p, q) {
+        Verdict::Refused(refusal) => Verdict::Refused(refusal),
+        Verdict::Passed => {
+            if !primitive::has_full_order(m, p, q) {
+                return Verdict::Refused(Refusal::StepNotCoprime);
+            }
+            Verdict::Passed
+        }
+    }
+}
+
+// The step of a pair, or the same refusal: here the step is looked for, and itself held to 2^m - 1.
 pub fn judge_pair(m: u32, p: u32, q: u32) -> Judgement
     requires { ⌜ Lawful m ⌝ }
     ensures { λ r. ⌜ r ≡ pairJudgement m p q ⌝ }
 {
-    if !is_well_formed(m, p, q) {
-        return Judgement::Rejected(Refusal::IllFormedPair);
+    match check_polynomials(m, p, q) {
+        Verdict::Refused(refusal) => Judgement::Rejected(refusal),
+        Verdict::Passed => {
+            let step = step::find_step(m, p, q);
+            if common_divisor::gcd_of(step, degrees::leading_term(m) - 1) != 1 {
+                return Judgement::Rejected(Refusal::StepNotCoprime);
+            }
+            Judgement::Accepted(step)
+        }
     }
-    if !primitive::is_primitive(m, p) {
-        return Judgement::Rejected(Refusal::NotPrimitive);
-    }
-    let top = degrees::leading_term(m);
-    if !fractions::linear_quotients(p, q, top) {
-        return Judgement::Rejected(Refusal::QuotientNotLinear);
-    }
-    let step = step::find_step(m, p, q);
-    if common_divisor::gcd_of(step, top - 1) != 1 {
-        return Judgement::Rejected(Refusal::StepNotCoprime);
-    }
-    Judgement::Accepted(step)
 }

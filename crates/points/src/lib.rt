@@ -1,11 +1,11 @@
 // Points: the words of a pair's full period, written to a lent slice.
 ghost use mathlib.Core.Path.{_≡_};
 ghost use Rattle.definitions.specs.Calls.{pointsAnswer, pointsSlice};
-use definitions::Judgement;
 use definitions::PointsAnswer;
 use definitions::Refusal;
 use generator::degrees;
 use generator::pair;
+use generator::pair::Verdict;
 
 pub mod word; // one word: the first 32 digits of a residue over p
 pub mod tables; // the next state and the word by tables
@@ -19,9 +19,9 @@ pub fn points(degree: u32, p: u32, q: u32, first: u32, out: &mut [u32]) -> Point
     if !limits::is_lawful_degree(degree) {
         return PointsAnswer::NotWritten(Refusal::WrongDegree);
     }
-    match pair::judge_pair(degree, p, q) {
-        Judgement::Rejected(refusal) => PointsAnswer::NotWritten(refusal),
-        Judgement::Accepted(_) => {
+    match pair::check_pair(degree, p, q) {
+        Verdict::Refused(refusal) => PointsAnswer::NotWritten(refusal),
+        Verdict::Passed => {
             let last = degrees::leading_term(degree) - 2;
             if first > last {
                 return PointsAnswer::NotWritten(Refusal::BeyondPeriod);

@@ -1,12 +1,13 @@
 // The words from an index on.
 ghost use mathlib.Core.Path.{_≡_};
 ghost use mathlib.Core.List.{_++_};
-ghost use Prim.Native.Nat.{_≤_, min};
+ghost use Prim.Native.Nat.{_^_, _<_, _≤_, min};
 ghost use lib.ListN.{length, drop};
-ghost use Rattle.definitions.specs.Points.{words};
+ghost use Rattle.definitions.specs.Points.{state, words};
 ghost use Rattle.fraction_laws.specs.WellFormed.{WellFormed};
 ghost use Rattle.generator.specs.Lawful.{Lawful};
 use crate::tables;
+use crate::word;
 use generator::degrees;
 use polynomial::residues;
 
@@ -16,16 +17,57 @@ pub fn smaller(a: usize, b: usize) -> usize
     if a < b { a } else { b }
 }
 
-// Words first .. first + count - 1 over the front of the slice; what stands behind them stays. The first state by a power, each next times q:
-// two entries of the tables give the word, two the next state.
+// The state of word i: q to that power.
+fn state_at(m: u32, p: u32, q: u32, i: u32) -> u32
+    requires { ⌜ Lawful m ⌝ }
+    requires { ⌜ WellFormed m p q ⌝ }
+    ensures { λ y. ⌜ (y ≡ state p q i) × (y < 2 ^ m) ⌝ }
+{
+    residues::pow_mod(q, i, p, degrees::leading_term(m))
+}
+
+// From so many words on the tables cost less than they save.
+const MANY: usize = 16;
+
+// Words first .. first + count - 1 over the front of the slice; what stands behind them stays.
 pub fn write(m: u32, p: u32, q: u32, first: u32, count: usize, out: &mut [u32])
     requires { ⌜ Lawful m ⌝ }
     requires { ⌜ WellFormed m p q ⌝ }
     requires { ⌜ count ≤ length (now out) ⌝ }
     ensures { λ r. ⌜ now (out .exit) ≡ words p q first count ++ drop count (now (out .entry)) ⌝ }
 {
+    if count < MANY {
+        write_few(m, p, q, first, count, out);
+    } else {
+        write_many(m, p, q, first, count, out);
+    }
+}
+
+// Each word by long division, each next state times q.
+fn write_few(m: u32, p: u32, q: u32, first: u32, count: usize, out: &mut [u32])
+    requires { ⌜ Lawful m ⌝ }
+    requires { ⌜ WellFormed m p q ⌝ }
+    requires { ⌜ count ≤ length (now out) ⌝ }
+    ensures { λ r. ⌜ now (out .exit) ≡ words p q first count ++ drop count (now (out .entry)) ⌝ }
+{
     let top = degrees::leading_term(m);
-    let mut y = residues::pow_mod(q, first, p, top);
+    let mut y = state_at(m, p, q, first);
+    let mut i: usize = 0;
+    while i < count {
+        out[i] = word::word_of(m, p, y);
+        y = residues::mul_mod(q, y, p, top);
+        i += 1;
+    }
+}
+
+// The same by tables: two entries give the word, two the next state.
+fn write_many(m: u32, p: u32, q: u32, first: u32, count: usize, out: &mut [u32])
+    requires { ⌜ Lawful m ⌝ }
+    requires { ⌜ WellFormed m p q ⌝ }
+    requires { ⌜ count ≤ length (now out) ⌝ }
+    ensures { λ r. ⌜ now (out .exit) ≡ words p q first count ++ drop count (now (out .entry)) ⌝ }
+{
+    let mut y = state_at(m, p, q, first);
     let mut next_low = [0u32; tables::SIZE];
     let mut word_low = [0u32; tables::SIZE];
     tables::fill(m, p, q, 1, &mut next_low, &mut word_low);

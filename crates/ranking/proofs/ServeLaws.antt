@@ -1,5 +1,5 @@
--- A page from the walk: from the root of the tree nothing is found yet, and when all is walked the ranked list's page stands in the slice; a
--- position's pair is refused as judging refuses it; and the situations of a request are these in their order. Assumes nothing.
+-- A page from the walk: from the root of the tree nothing is found yet, and when all is walked the ranked list's page stands in the slice; and
+-- a request is answered by its situations in their order. Assumes nothing.
 use mathlib.Core.Path.{_≡_, refl, sym, ap, ap₂, _∙_}
 use mathlib.Core.Bool.{Bool, true, false, and-eq-true-iff}
 use mathlib.Core.List.{List, [], _∷_, _++_, append-assoc}
@@ -13,30 +13,24 @@ use lib.ListN.{length, take, drop, set, length-set, length-drop}
 use lib.Seq.{take-at, length-take-le}
 use borrow.Rule.Slice.PartMut.{putMid, postOf, same-len-mid}
 use borrow.Author.Tests.{lt-ltb, le-ltb, leb-true}
-use Rattle.definitions.specs.Answers.{Situation, unless}
+use Rattle.definitions.specs.Answers.{unless}
 use Rattle.definitions.specs.Number.{numbers}
 use Rattle.definitions.specs.Calls.{paging, positionSituations, pairSituations, pageRows, furtherRow, pageAnswer, pageSlice}
-use Rattle.definitions.specs.Honest.{unless-both}
-use Rattle.definitions.specs.Generator.{Pair, pairsBelow, tree, lawfulDegree, wellFormed, accepted, primitive, linearQuotients, coprimeStep, step}
+use Rattle.definitions.specs.Generator.{Pair, pairsBelow, tree, lawfulDegree}
 use Rattle.definitions.specs.Pages.{Place, start, after, more}
 use Rattle.definitions.specs.Ranking.{lawfulTop, leastTop, largestTop, row, rowKey, tValues, ranked, placeOf}
-use Rattle.definitions.specs.declared.Refusal.{Refusal}
 use Rattle.definitions.specs.declared.Refusal.the-variants.{WrongDegree, WrongDimension, ShortSlice}
 use Rattle.definitions.specs.declared.Position.{Position}
 use Rattle.definitions.specs.declared.Position.the-variants.{Start, After}
 use Rattle.definitions.specs.declared.PageRequest.{PageRequest}
-use Rattle.definitions.specs.declared.Judgement.{Judgement}
-use Rattle.definitions.specs.declared.Judgement.the-variants.{Accepted, Rejected}
 use Rattle.definitions.specs.declared.PageAnswer.{PageAnswer}
 use Rattle.definitions.specs.declared.PageAnswer.the-variants.{Page, NoPage}
 use Rattle.fraction_laws.specs.Walk.{root-proper}
 use Rattle.fraction_laws.specs.Tree.{tree-def}
-use Rattle.order_laws.specs.Accepted.{accepted-is}
-use Rattle.page_laws.specs.Key.{by-test}
 use Rattle.page_laws.specs.Search.{Search, offerAll, found, search-page, start-good}
 use Rattle.ranking_laws.specs.Met.{met, met-wide, tree-ranked, tValues-length}
 use Rattle.generator.specs.Lawful.{Lawful}
-use Rattle.generator.specs.Judging.{pairJudgement, ill-formed, not-primitive, not-linear, not-coprime}
+use Rattle.generator.specs.Refusals.{unless-append}
 use Rattle.search.specs.Frame.{topOf, placeIf, placeFrom, offers}
 use Rattle.search.specs.Standing.{begun}
 use Rattle.search.specs.Walk.{Ready}
@@ -134,56 +128,6 @@ module _ (m top p q : ℕ) (dims : LawfulTop top) where
   pub place-keyed : {w : List ℕ} → Keyed m top p q w → placeIf true (rowKey (take (suc top) w)) ≡ after (rowKey (row m top p q))
   place-keyed k = ap after (ap rowKey (k .is) ∙ key-of)
 
--- ---- the situations of a request
-
-unless-append : {A : Type 0} (l k : List Situation) (refuse : Refusal → A) (value : A) → unless (l ++ k) refuse value ≡ unless l refuse (unless k refuse value)
-unfolding unless
-unless-append [] k refuse value = refl
-unless-append {A} (x ∷ l) k refuse value = go (x .applies) (unless-append l k refuse value)
-  where
-    go : (b : Bool) → unless (l ++ k) refuse value ≡ unless l refuse (unless k refuse value)
-        → _≡_ {A = A} (elim b [ true ↦ refuse (x .refusal) | false ↦ unless (l ++ k) refuse value ])
-        (elim b [ true ↦ refuse (x .refusal) | false ↦ unless l refuse (unless k refuse value) ])
-    go true ih = refl
-    go false ih = ih
-
-module _ (m p q : ℕ) {A : Type 0} (refuse : Refusal → A) (value : A) where
-  -- A pair that judging rejects is refused for the same reason.
-  pub rejected : {n : Refusal} {j : Judgement} → j ≡ pairJudgement m p q → j ≡ Rejected n → refuse n ≡ unless (pairSituations m p q) refuse value
-  unfolding pairJudgement
-  rejected {n} e f =
-      unless-both (λ (a : Judgement) (o : A). a ≡ Rejected n → refuse n ≡ o) (pairSituations m p q) Rejected (Accepted (step m p q)) refuse value
-      (λ k (g : Rejected k ≡ Rejected n). let z : n ≡ k = cc in ap refuse z)
-      (λ (g : Accepted (step m p q) ≡ Rejected n). let z : _≡_ {A = ℕ} 0 1 = cc in absurd (omega arith))
-      (sym e ∙ f)
-
-  -- A pair that judging accepts is not refused.
-  pub not-refused : {k : ℕ} {j : Judgement} → j ≡ pairJudgement m p q → j ≡ Accepted k → value ≡ unless (pairSituations m p q) refuse value
-  unfolding pairJudgement
-  not-refused {k} e f =
-      unless-both (λ (a : Judgement) (o : A). a ≡ Accepted k → value ≡ o) (pairSituations m p q) Rejected (Accepted (step m p q)) refuse value
-      (λ n (g : Rejected n ≡ Accepted k). let z : _≡_ {A = ℕ} 0 1 = cc in absurd (omega arith))
-      (λ g. refl)
-      (sym e ∙ f)
-
-module _ (m p q : ℕ) {k : ℕ} {j : Judgement} (e : j ≡ pairJudgement m p q) (f : j ≡ Accepted k) where
-  never : {n : Refusal} {A : Type 0} → pairJudgement m p q ≡ Rejected n → A
-  never {n} g = let h : Accepted k ≡ Rejected n = sym f ∙ e ∙ g in let z : _≡_ {A = ℕ} 0 1 = cc in absurd (omega arith)
-
-  pub judged-well-formed : wellFormed m p q ≡ true
-  judged-well-formed = by-test (wellFormed m p q) (λ t. t) (λ t. never (ill-formed m p q t))
-
-  pub judged-accepted : accepted m p q ≡ true
-  judged-accepted =
-      let w = judged-well-formed in
-      by-test (primitive m p)
-      (λ a. by-test (linearQuotients p q)
-      (λ b. by-test (coprimeStep m p q)
-      (λ c. accepted-is m p q .1 (record { primitive-p = a; linear = b; coprime = c }))
-      (λ c. never (not-coprime m p q w a b c)))
-      (λ b. never (not-linear m p q w a b)))
-      (λ a. never (not-primitive m p q w a))
-
 -- ---- a request
 
 pub lawful-top : (top : ℕ) → lawfulTop top ≡ true → LawfulTop top
@@ -212,11 +156,11 @@ module _ (r : PageRequest) (s : List ℕ) where
     module _ (t : lawfulTop (r .top) ≡ true) where
       answer-is : pageAnswer r s ≡ unless (positionSituations (r .degree) (r .position)) NoPage (servedAnswer (r .degree) (r .top) (placeOf (r .degree) (r .top) (r .position)) s)
       unfolding pageAnswer paging servedAnswer pageRows furtherRow unless
-      answer-is = rw (d, t) (unless-append (positionSituations (r .degree) (r .position)) (tooShort (r .top) s) NoPage _)
+      answer-is = rw (d, t) (unless-append NoPage _ (positionSituations (r .degree) (r .position)) (tooShort (r .top) s))
 
       slice-is : pageSlice r s ≡ unless (positionSituations (r .degree) (r .position)) (λ n. s) (servedSlice (r .degree) (r .top) (placeOf (r .degree) (r .top) (r .position)) s)
       unfolding pageSlice paging servedSlice pageRows unless
-      slice-is = rw (d, t) (unless-append (positionSituations (r .degree) (r .position)) (tooShort (r .top) s) (λ n. s) _)
+      slice-is = rw (d, t) (unless-append (λ n. s) _ (positionSituations (r .degree) (r .position)) (tooShort (r .top) s))
 
       pub start-answer : {a : PageAnswer} → r .position ≡ Start → a ≡ servedAnswer (r .degree) (r .top) start s → a ≡ pageAnswer r s
       unfolding positionSituations placeOf unless

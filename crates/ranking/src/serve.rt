@@ -13,10 +13,10 @@ ghost use Rattle.fraction_laws.specs.WellFormed.{WellFormed};
 ghost use Rattle.generator.specs.Lawful.{Lawful};
 ghost use Rattle.search.specs.Frame.{placeIf};
 ghost use Rattle.ranking.specs.Serve.{LawfulTop, servedAnswer, servedSlice, Keyed};
-use definitions::Judgement;
 use definitions::PageAnswer;
 use definitions::Refusal;
 use generator::pair;
+use generator::pair::Verdict;
 use net::values;
 use search::frame::Frame;
 use search::frame::Tally;
@@ -84,9 +84,8 @@ pub fn next_page(degree: u32, top: u32, p: u32, q: u32, out: &mut [u32]) -> Page
     ensures answer { λ a. ⌜ a ≡ unless (pairSituations degree p q) NoPage (servedAnswer degree top (after (rowKey (row degree top p q))) (now (out .entry))) ⌝ }
     ensures slice { λ a. ⌜ now (out .exit) ≡ unless (pairSituations degree p q) (λ n. now (out .entry)) (servedSlice degree top (after (rowKey (row degree top p q))) (now (out .entry))) ⌝ }
 {
-    let judged = pair::judge_pair(degree, p, q);
-    match judged {
-        Judgement::Rejected(refusal) => PageAnswer::NoPage(refusal),
-        Judgement::Accepted(_) => page_after(degree, top, p, q, out),
+    match pair::check_pair(degree, p, q) {
+        Verdict::Refused(refusal) => PageAnswer::NoPage(refusal),
+        Verdict::Passed => page_after(degree, top, p, q, out),
     }
 }

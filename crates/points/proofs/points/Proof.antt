@@ -7,10 +7,9 @@ use denote.Ref.{now}
 use borrow.Author.Needs.{needs}
 use borrow.Author.Tests.{not-true, not-false}
 use Rattle.definitions.specs.Generator.{lawfulDegree}
-use Rattle.fraction_laws.specs.WellFormed.{wellFormed-is}
 use Rattle.generator.specs.Lawful.{Lawful, lawful-is, top-low}
-use Rattle.generator.specs.Judging.{accepted-well-formed}
-use Rattle.points.specs.Answering.{answered-unlawful, answered-rejected, answered-beyond, answered-written, words-left}
+use Rattle.generator.specs.Refusals.{passed-well-formed}
+use Rattle.points.specs.Answering.{answered-unlawful, answered-refused, answered-beyond, answered-written, words-left}
 use Rattle.points.proofs.points.Statement.{statement}
 use Rattle.points.proofs.points.Tie as tie
 
@@ -23,8 +22,8 @@ lawful c = sym (c .before .is-lawful-degree .ensures) ∙ not-false _ (c .if1 .l
 covered : (c : tie.Else1) → Lawful (c .before .before .before .args .degree)
 covered c = lawful-is _ .0 (lawful c)
 
-judge-pair-requires : tie.Need-judge-pair-requires
-judge-pair-requires c κs = covered c
+check-pair-requires : tie.Need-check-pair-requires
+check-pair-requires c κs = covered c
 
 leading-term-requires : tie.Need-leading-term-requires
 leading-term-requires c κs = covered (c .before .before .before)
@@ -36,25 +35,25 @@ returns-2 : tie.Need-returns-2
 returns-2 c =
     let at = c .before .before .before .before .before in
     let told = c .before .before .enum-told .given in
-    answered-beyond _ _ _ _ _ (lawful at) (told .0 .0) (sym (c .before .before .before .before .judge-pair .ensures) ∙ told .1) (omega (arith, c .before .leading-term .ensures))
+    answered-beyond _ _ _ _ _ (lawful at) (sym (c .before .before .before .before .check-pair .ensures) ∙ told .1) (omega (arith, c .before .leading-term .ensures))
 
 write-requires : tie.Need-write-requires
 write-requires c κs =
     let at = c .before .before .before .before .before .before .before in
     let told = c .before .before .before .before .enum-told .given in
-    (covered at, (wellFormed-is _ _ _ .0 (accepted-well-formed _ _ _ (told .0 .0) (sym (c .before .before .before .before .before .before .judge-pair .ensures) ∙ told .1)), omega (arith, c .before .smaller .ensures)))
+    (covered at, (passed-well-formed _ _ _ (sym (c .before .before .before .before .before .before .check-pair .ensures) ∙ told .1), omega (arith, c .before .smaller .ensures)))
 
 returns-3 : tie.Need-returns-3
 returns-3 c =
     let told = c .before .refusal .given in
-    answered-rejected _ _ _ _ _ (lawful (c .before .before .before .before)) (told .0 .0) (sym (c .before .before .before .judge-pair .ensures) ∙ told .1)
+    answered-refused _ _ _ _ _ (lawful (c .before .before .before .before)) (told .0 .0) (sym (c .before .before .before .check-pair .ensures) ∙ told .1)
 
 returns-4 : tie.Need-returns-4
 returns-4 c =
     let at = c .before .before .before .before .before .before .before .before .before .before in
     let told = c .before .before .before .before .before .before .before .enum-told .given in
     let top = c .before .before .before .before .before .before .leading-term .ensures in
-    answered-written _ _ _ _ _ (lawful at) (told .0 .0) _ _ (sym (c .before .before .before .before .before .before .before .before .before .judge-pair .ensures) ∙ told .1)
+    answered-written _ _ _ _ _ (lawful at) _ _ (sym (c .before .before .before .before .before .before .before .before .before .check-pair .ensures) ∙ told .1)
     (omega (arith, top))
     (c .before .before .before .before .smaller .ensures
     ∙ words-left _ _ _ (now (at .before .before .before .args .out)) top (omega (arith, top, top-low (covered at))) (c .before .before .before .before .before .if2 .left))
@@ -63,5 +62,5 @@ returns-4 c =
 pub points-spec : {M : Type 1} → statement M
 points-spec =
     tie.close
-    (tie.spec (λ c κs. search needs) returns judge-pair-requires (λ c. search needs) (λ c. search needs) leading-term-requires sub-last
+    (tie.spec (λ c κs. search needs) returns check-pair-requires (λ c. search needs) (λ c. search needs) leading-term-requires sub-last
     returns-2 (λ c. search needs) (λ c. search needs) (λ c κs. search needs) write-requires returns-3 (λ c. search needs) returns-4)

@@ -1,7 +1,7 @@
 -- `points::word::word_of` meets its contract. Invariant: after d digits the word holds them and the rest is what long division leaves.
 -- Assumes nothing.
 use mathlib.Core.Path.{_≡_, ap, _∙_}
-use Prim.Native.Nat.{ℕ, _-_, _≤_}
+use Prim.Native.Nat.{ℕ, _-_, _<_, _≤_}
 use native.Mathlib.Omega.{arith}
 use borrow.Author.Needs.{needs}
 use Rattle.definitions.specs.Points.{leading, wordDigits}
@@ -23,7 +23,8 @@ loop-holds c = (divided-start _ _ (c .before .pre .1 .0) _ (c .before .pre .1 .1
 mul-word : tie.Need-mul-word Inv-loop μ-loop
 mul-word c =
     let pre = c .before .before .before .pre in
-    omega (arith, next-fits _ _ (pre .1 .0) _ (pre .1 .1) _ _ _ (c .before .loop .inv .0) (c .loop-test .taken))
+    let more : c .before .loop .d < 32 = omega arith in
+    omega (arith, next-fits _ _ (pre .1 .0) _ (pre .1 .1) _ _ _ (c .before .loop .inv .0) more)
 
 mul-word-2 : tie.Need-mul-word-2 Inv-loop μ-loop
 mul-word-2 c =
@@ -36,7 +37,8 @@ shr-word c = omega (arith, c .before .before .before .pre .0 .high)
 add-word : tie.Need-add-word Inv-loop μ-loop
 add-word c =
     let pre = c .before .before .before .pre in
-    record { fits = next-fits _ _ (pre .1 .0) _ (pre .1 .1) _ _ _ (c .before .loop .inv .0) (c .loop-test .taken) }
+    let more : c .before .loop .d < 32 = omega arith in
+    record { fits = next-fits _ _ (pre .1 .0) _ (pre .1 .1) _ _ _ (c .before .loop .inv .0) more }
 
 times-x-requires : tie.Need-times-x-requires Inv-loop μ-loop
 times-x-requires c κs =

@@ -1,40 +1,29 @@
 -- `serve::next_page` refuses what judging rejects, for the same reason, and else serves the page after the pair. Assumes nothing.
-use mathlib.Core.Path.{_∙_}
-use Rattle.definitions.specs.Pages.{after}
-use Rattle.definitions.specs.Ranking.{row, rowKey}
+use mathlib.Core.Path.{sym, _∙_}
 use Rattle.definitions.specs.declared.PageAnswer.the-variants.{NoPage}
-use Rattle.fraction_laws.specs.WellFormed.{wellFormed-is}
-use Rattle.ranking.specs.Serve.{servedAnswer, servedSlice}
-use Rattle.ranking.proofs.ServeLaws as laws
+use Rattle.generator.specs.Refusals.{pair-refused, pair-passes, passed-well-formed, passed-accepted}
 use borrow.Author.Needs.{needs}
 use Rattle.ranking.proofs.serve.next_page.Statement.{statement}
 use Rattle.ranking.proofs.serve.next_page.Tie as tie
 
 page-after-requires : tie.Need-page-after-requires
 page-after-requires c κs =
-    let g = c .before .before .before .before .before .args in
-    let j = c .before .before .before .judge-pair .ensures in
-    let told = c .before .enum-told .given .1 in (
-      c .before .before .before .before .before .pre .0,
-      c .before .before .before .before .before .pre .1,
-      wellFormed-is (g .degree) (g .p) (g .q) .0 (laws.judged-well-formed (g .degree) (g .p) (g .q) j told),
-      laws.judged-accepted (g .degree) (g .p) (g .q) j told,
-    )
+    let pre = c .before .before .before .before .before .pre in
+    let passed = sym (c .before .before .before .check-pair .ensures) ∙ c .before .enum-told .given .1 in
+    (pre .0, pre .1, passed-well-formed _ _ _ passed, passed-accepted _ _ _ passed)
 
 returns : tie.Need-returns
 returns c =
     let g = c .before .before .before .before .before .args in
-    let j = c .before .before .before .judge-pair .ensures in
-    let told = c .before .judged .given .1 in
-    (laws.rejected (g .degree) (g .p) (g .q) NoPage (servedAnswer (g .degree) (g .top) (after (rowKey (row (g .degree) (g .top) (g .p) (g .q)))) (g .out .now)) j told, laws.rejected (g .degree) (g .p) (g .q) (λ n. g .out .now) (servedSlice (g .degree) (g .top) (after (rowKey (row (g .degree) (g .top) (g .p) (g .q)))) (g .out .now)) j told)
+    let refused = sym (c .before .before .before .check-pair .ensures) ∙ c .before .refusal .given .1 in
+    (sym (pair-refused _ _ _ NoPage _ refused), sym (pair-refused _ _ _ (λ n. g .out .now) _ refused))
 
 returns-2 : tie.Need-returns-2
 returns-2 c =
     let g = c .before .before .before .before .before .before .before .before .args in
-    let j = c .before .before .before .before .before .before .judge-pair .ensures in
-    let told = c .before .before .before .before .enum-told .given .1 in (
-      c .before .before .page-after .ensures .0 ∙ laws.not-refused (g .degree) (g .p) (g .q) NoPage (servedAnswer (g .degree) (g .top) (after (rowKey (row (g .degree) (g .top) (g .p) (g .q)))) (g .out .now)) j told,
-      c .before .before .page-after .ensures .1 ∙ laws.not-refused (g .degree) (g .p) (g .q) (λ n. g .out .now) (servedSlice (g .degree) (g .top) (after (rowKey (row (g .degree) (g .top) (g .p) (g .q)))) (g .out .now)) j told,
+    let passed = sym (c .before .before .before .before .before .before .check-pair .ensures) ∙ c .before .before .before .before .enum-told .given .1 in (
+      c .before .before .page-after .ensures .0 ∙ sym (pair-passes _ _ _ NoPage _ passed),
+      c .before .before .page-after .ensures .1 ∙ sym (pair-passes _ _ _ (λ n. g .out .now) _ passed),
     )
 
 pub next-page-spec : {M : Type 1} → statement M
