@@ -1,5 +1,5 @@
--- What one turn of each loop over rows does: numbers moved up one by one, from the last; numbers written one by one; t-values compared from the
--- first that differ on. Rows compare by their t-values, and where neither stand before the others by their pairs. Assumes nothing.
+-- What one turn of each loop over rows does: a number moved up, two t-values compared. A row is put in by a shift and a paste; rows compare by
+-- their t-values, and by their pairs where these do not decide. Assumes nothing.
 use mathlib.Core.Path.{_≡_, refl, sym, ap, _∙_}
 use mathlib.Core.Bool.{false, not, _||_, _&&_}
 use mathlib.Core.List.{List, [], _∷_, _++_, append-assoc}
@@ -24,7 +24,7 @@ row-in w p n h = omega (arith, mul-le-mul-right {m = suc p} {n = n} w h)
 pub mid-in : (w low high n : ℕ) → low < high → high ≤ n → (low + (high - low) / 2) * w + w ≤ n * w
 mid-in w low high n l h = row-in w (low + (high - low) / 2) n (omega arith)
 
--- ---- a row put in: numbers moved up, and the row written before them
+-- ---- a row put in: the numbers behind it moved up, the last first, and the row written
 
 module _ (to w : ℕ) (s : List ℕ) where
   pub shifted-none : s ≡ shifted to to w s
@@ -51,7 +51,8 @@ module _ (to w : ℕ) (s : List ℕ) where
       let next : j ≡ suc (j - 1) = omega arith in
       rw (e ∙ ap (λ (k : ℕ). shifted k to w s) next) (shifted-more (j - 1) (omega arith) h)
 
-pub shifted-paste : (from to w : ℕ) (row s : List ℕ) → from ≤ to → to + w ≤ length s → paste (shifted from to w s) from row w ≡ spliced from to w (take w row) s
+pub shifted-paste : (from to w : ℕ) (row s : List ℕ) → from ≤ to → to + w ≤ length s
+    → paste (shifted from to w s) from row w ≡ spliced from to w (take w row) s
 unfolding shifted spliced
 shifted-paste from to w row s l h =
     let long = length-take-le (from + w) s (omega arith) in

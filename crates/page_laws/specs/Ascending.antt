@@ -1,10 +1,9 @@
 -- Lists that ascend strictly: each element stands above the place, or the element, before it. Then so do all members, no member comes twice,
 -- and the members determine the list, since the least one comes first. All elements of the list are above the place it ascends from.
 -- Assumes nothing.
-use mathlib.Core.Path.{_≡_, refl, sym, ap, ap₂, _∙_}
-use mathlib.Core.Logic.{_⊎_, inl, inr}
+use mathlib.Core.Path.{_≡_, refl, sym, ap₂, _∙_}
 use mathlib.Core.Bool.{true}
-use mathlib.Core.List.{List, [], _∷_, List·Memᴰ, List·Memᴰ·head, List·Memᴰ·tail, List·Memᴰ·not-nil, List·Memᴰ·cases-cons, List·Nodup, Pairwise·nil}
+use mathlib.Core.List.{List, [], _∷_, List·Memᴰ, List·Memᴰ·head, List·Memᴰ·tail, List·Memᴰ·not-nil, List·Nodup, Pairwise·nil}
 use Prim.Native.Nat.{ℕ}
 use Rattle.definitions.specs.Number.{keep}
 use Rattle.definitions.specs.Pages.{before, Place, start, after, above, rest}
@@ -29,10 +28,10 @@ above-trans (after i) j k h t = before-trans i j k h t
 
 -- ---- ascending lists
 
-module _ {X : Type 0} (key : X → List ℕ) where
-  unfoldable pub Ascends : Place → List X → Type 0
-  Ascends at [] = Unit {0}
-  Ascends at (x ∷ l) = (above at (key x) ≡ true) × Ascends (after (key x)) l
+-- Each element stands above the place, or behind the element, before it.
+unfoldable pub Ascends : {X : Type 0} → (X → List ℕ) → Place → List X → Type 0
+Ascends key at [] = Unit {0}
+Ascends key at (x ∷ l) = (above at (key x) ≡ true) × Ascends key (after (key x)) l
 
 module _ {X : Type 0} (key : X → List ℕ) where
   -- A list that ascends from a key ascends from each place below the key.
@@ -44,7 +43,7 @@ module _ {X : Type 0} (key : X → List ℕ) where
   pub rest-all : (at : Place) (l : List X) → Ascends key at l → rest key at l ≡ l
   unfolding Ascends rest keep
   rest-all at [] a = refl
-  rest-all at (x ∷ l) a = rw (a .0) (ap (λ (r : List X). x ∷ r) (rest-all at l (ascends-below at (key x) l (a .0) (a .1))))
+  rest-all at (x ∷ l) a = rw (a .0, rest-all at l (ascends-below at (key x) l (a .0) (a .1)))
 
   member-behind : (k : List ℕ) {x : X} {l : List X} → Ascends key (after k) l → List·Memᴰ x l → before k (key x) ≡ true
   unfolding Ascends above
@@ -61,11 +60,11 @@ module _ {X : Type 0} (key : X → List ℕ) where
 
   -- Without their common first element one list is still within the other.
   within-tail : {x y : X} {l m : List X} → Ascends key (after (key x)) l → x ≡ y → Within (x ∷ l) (y ∷ m) → Within l m
-  within-tail {x} {y} {l} {m} a e there z i = go (List·Memᴰ·cases-cons (there z (List·Memᴰ·tail i)))
+  within-tail {x} {y} {l} {m} a e there z i = go (there z (List·Memᴰ·tail i))
     where
-      go : (z ≡ y) ⊎ List·Memᴰ z m → List·Memᴰ z m
-      go (inl h) = absurd (first-once a (rw (h ∙ sym e) at i))
-      go (inr j) = j
+      go : List·Memᴰ z (y ∷ m) → List·Memᴰ z m
+      go (List·Memᴰ·head h) = absurd (first-once a (rw (h ∙ sym e) at i))
+      go (List·Memᴰ·tail j) = j
 
   pub same-members : (at at′ : Place) (l m : List X) → Ascends key at l → Ascends key at′ m → Within l m → Within m l → l ≡ m
   unfolding Ascends
@@ -75,10 +74,10 @@ module _ {X : Type 0} (key : X → List ℕ) where
   same-members at at′ (x ∷ l) (y ∷ m) a b there back =
       ap₂ _∷_ first (same-members (after (key x)) (after (key y)) l m (a .1) (b .1) (within-tail (a .1) first there) (within-tail (b .1) (sym first) back))
     where
-      least : (x ≡ y) ⊎ List·Memᴰ x m → (y ≡ x) ⊎ List·Memᴰ y l → x ≡ y
-      least (inl e) i = e
-      least (inr h) (inl e) = sym e
-      least (inr h) (inr i) = not-both (member-behind (key y) (b .1) h) (before-asym (key x) (key y) (member-behind (key x) (a .1) i))
+      least : List·Memᴰ x (y ∷ m) → List·Memᴰ y (x ∷ l) → x ≡ y
+      least (List·Memᴰ·head e) i = e
+      least (List·Memᴰ·tail h) (List·Memᴰ·head e) = sym e
+      least (List·Memᴰ·tail h) (List·Memᴰ·tail i) = not-both (member-behind (key y) (b .1) h) (before-asym (key x) (key y) (member-behind (key x) (a .1) i))
 
       first : x ≡ y
-      first = least (List·Memᴰ·cases-cons (there x (List·Memᴰ·head refl))) (List·Memᴰ·cases-cons (back y (List·Memᴰ·head refl)))
+      first = least (there x (List·Memᴰ·head refl)) (back y (List·Memᴰ·head refl))

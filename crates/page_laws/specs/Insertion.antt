@@ -2,7 +2,6 @@
 -- a new one, the list goes on to ascend. Sorting inserts one element after the other, so lists of the same members, with keys of their own,
 -- are sorted alike. The first k of an insertion, and those above a place, come from the first k, and from those above it. Assumes nothing.
 use mathlib.Core.Path.{_≡_, refl, sym, ap}
-use mathlib.Core.Logic.{_⊎_, inl, inr}
 use mathlib.Core.Bool.{Bool, true, false, cond}
 use mathlib.Core.List.{List, [], _∷_, map, List·Memᴰ, List·Memᴰ·head, List·Memᴰ·tail, List·Memᴰ·not-nil, Memᴰ·cast, List·Nodup}
 use Prim.Native.Nat.{ℕ, zero, suc}
@@ -12,7 +11,7 @@ use lib.Seq.{take-take}
 use Rattle.definitions.specs.Number.{keep, putIf}
 use Rattle.definitions.specs.Pages.{before, Place, start, after, above, insert, insertAll, sort, rest}
 use Rattle.number_laws.specs.Lists.{nodup-fresh, nodup-tail}
-use Rattle.page_laws.specs.Key.{before-neither, by-test}
+use Rattle.page_laws.specs.Key.{before-either, by-test}
 use Rattle.page_laws.specs.Members.{Within, each-more}
 use Rattle.page_laws.specs.Ascending.{Ascends, above-trans, same-members}
 
@@ -70,26 +69,27 @@ module _ {X : Type 0} (key : X → List ℕ) where
   take-insert zero r l = refl
   take-insert (suc k) r [] = refl
   take-insert (suc k) r (x ∷ l) = by-test (before (key r) (key x))
-      (λ t. rw t (ap (λ (m : List X). r ∷ m) (sym (take-take k (suc k) (x ∷ l) (omega arith)))))
-      (λ f. rw f (ap (λ (m : List X). x ∷ m) (take-insert k r l)))
+      (λ t. rw (t, take-take k (suc k) (x ∷ l) (omega arith)))
+      (λ f. rw (f, take-insert k r l))
 
   pub rest-insert : (at : Place) (r : X) (l : List X) → above at (key r) ≡ true → rest key at (insert key r l) ≡ insert key r (rest key at l)
   unfolding insert rest keep
   rest-insert at r [] h = rw h
   rest-insert at r (x ∷ l) h = by-test (before (key r) (key x))
       (λ t. rw (t, h, above-trans at (key r) (key x) h t, t))
-      (λ f. rw f (by-test (above at (key x)) (λ t. rw (t, f) (ap (λ (m : List X). x ∷ m) (rest-insert at r l h))) (λ g. rw g (rest-insert at r l h))))
+      (λ f. rw f (by-test (above at (key x)) (λ t. rw (t, f, rest-insert at r l h)) (λ g. rw g (rest-insert at r l h))))
 
   pub rest-insert-none : (at : Place) (r : X) (l : List X) → above at (key r) ≡ false → rest key at (insert key r l) ≡ rest key at l
   unfolding rest
   rest-insert-none at r l f = put-keep (λ (x : X). above at (key x)) f (insert-put r l)
 
-  insert-ascends : (at : Place) (r : X) (l : List X) → above at (key r) ≡ true → (List·Memᴰ (key r) (map key l) → ⊥) → Ascends key at l → Ascends key at (insert key r l)
+  insert-ascends : (at : Place) (r : X) (l : List X) → above at (key r) ≡ true → (List·Memᴰ (key r) (map key l) → ⊥)
+      → Ascends key at l → Ascends key at (insert key r l)
   unfolding Ascends insert above
   insert-ascends at r [] h fresh a = (h, tt)
   insert-ascends at r (x ∷ l) h fresh a = by-test (before (key r) (key x))
       (λ t. rw t (h, (t, a .1)))
-      (λ f. let g : before (key x) (key r) ≡ true = by-test (before (key x) (key r)) (λ t. t) (λ g. absurd (fresh (List·Memᴰ·head (before-neither (key r) (key x) f g)))) in
+      (λ f. let g = before-either (key r) (key x) f (λ e. fresh (List·Memᴰ·head e)) in
       rw f (a .0, insert-ascends (after (key x)) r l g (λ i. fresh (List·Memᴰ·tail i)) (a .1)))
 
   -- ---- sorting
@@ -98,23 +98,25 @@ module _ {X : Type 0} (key : X → List ℕ) where
   unfolding insertAll
   insertAll-out acc [] all f g = f
   insertAll-out acc (r ∷ rs) all f g =
-      insertAll-out (insert key r acc) rs all (λ x i. each-more (λ (y : X). List·Memᴰ y all) (g r (List·Memᴰ·head refl)) f x (put-out (insert-put r acc) x i)) (λ x i. g x (List·Memᴰ·tail i))
+      let now : Within (r ∷ acc) all = each-more (λ (y : X). List·Memᴰ y all) (g r (List·Memᴰ·head refl)) f in
+      insertAll-out (insert key r acc) rs all (λ x i. now x (put-out (insert-put r acc) x i)) (λ x i. g x (List·Memᴰ·tail i))
 
   pub sort-out : (rs : List X) → Within (sort key rs) rs
   unfolding sort
   sort-out rs = insertAll-out [] rs rs (λ x i. absurd (List·Memᴰ·not-nil i)) (λ x i. i)
 
-  insertAll-in : (acc rs : List X) {x : X} → List·Memᴰ x acc ⊎ List·Memᴰ x rs → List·Memᴰ x (insertAll key acc rs)
+  insertAll-in : (acc rs : List X) → Within acc (insertAll key acc rs) × Within rs (insertAll key acc rs)
   unfolding insertAll
-  insertAll-in acc [] (inl i) = i
-  insertAll-in acc [] (inr i) = absurd (List·Memᴰ·not-nil i)
-  insertAll-in acc (r ∷ rs) (inl i) = insertAll-in (insert key r acc) rs (inl (put-in (insert-put r acc) _ (List·Memᴰ·tail i)))
-  insertAll-in acc (r ∷ rs) (inr (List·Memᴰ·head e)) = insertAll-in (insert key r acc) rs (inl (put-in (insert-put r acc) _ (List·Memᴰ·head e)))
-  insertAll-in acc (r ∷ rs) (inr (List·Memᴰ·tail i)) = insertAll-in (insert key r acc) rs (inr i)
+  insertAll-in acc [] = (λ x i. i, λ x i. absurd (List·Memᴰ·not-nil i))
+  insertAll-in acc (r ∷ rs) =
+      let all = insertAll key (insert key r acc) rs in
+      let in-all = insertAll-in (insert key r acc) rs in
+      let now : Within (r ∷ acc) all = λ x i. in-all .0 x (put-in (insert-put r acc) x i) in
+      (λ x i. now x (List·Memᴰ·tail i), each-more (λ (y : X). List·Memᴰ y all) (now r (List·Memᴰ·head refl)) (in-all .1))
 
   pub sort-in : (rs : List X) → Within rs (sort key rs)
   unfolding sort
-  sort-in rs x i = insertAll-in [] rs (inr i)
+  sort-in rs = insertAll-in [] rs .1
 
   insertAll-ascends : (acc rs : List X) → Ascends key start acc → List·Nodup (map key rs)
       → ((k : List ℕ) → List·Memᴰ k (map key rs) → List·Memᴰ k (map key acc) → ⊥) → Ascends key start (insertAll key acc rs)

@@ -86,6 +86,10 @@ before-neither (x ∷ a) (y ∷ b) f g = go (ℕ-discrete x y) (before-neither a
         let m = ltb-false y x (sym (before-differ y x b a (λ e. n (sym e))) ∙ g) in
         absurd (n (omega arith))
 
+-- Of two different keys one stands before the other.
+pub before-either : (a b : List ℕ) → before a b ≡ false → (a ≡ b → ⊥) → before b a ≡ true
+before-either a b f n = by-test (before b a) (λ t. t) (λ g. absurd (n (before-neither a b f g)))
+
 -- What stands before a key stands before each key that does not.
 pub before-trans-weak : (a b c : List ℕ) → before a b ≡ true → before c b ≡ false → before a c ≡ true
 before-trans-weak a b c t f = by-test (before b c) (before-trans a b c t) (λ g. rw (before-neither c b f g) t)

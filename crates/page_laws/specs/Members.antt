@@ -29,6 +29,7 @@ getD-member d (x ∷ l) zero h = List·Memᴰ·head refl
 getD-member d (x ∷ l) (suc i) h = List·Memᴰ·tail (getD-member d l i (omega arith))
 
 -- A member of a page is one of the list, and stands above the place.
-pub page-out : {X : Type 0} (key : X → List ℕ) (at : Place) (k : ℕ) (l : List X) {x : X} → List·Memᴰ x (page key at k l) → List·Memᴰ x l × (above at (key x) ≡ true)
+pub page-out : {X : Type 0} (key : X → List ℕ) (at : Place) (k : ℕ) (l : List X) {x : X} → List·Memᴰ x (page key at k l)
+    → List·Memᴰ x l × (above at (key x) ≡ true)
 unfolding page rest
 page-out key at k l i = keep-out (λ x. above at (key x)) l (take-within k (rest key at l) _ i)

@@ -61,12 +61,12 @@ module _ (w : ℕ) where
   unfolding rowsOf
   take-rows zero n s h = refl
   take-rows (suc q) zero s h = absurd (omega arith)
-  take-rows (suc q) (suc n) s h = ap (λ (rows : List (List ℕ)). take w s ∷ rows) (take-rows q n (drop w s) (omega arith))
+  take-rows (suc q) (suc n) s h = rw (take-rows q n (drop w s) (omega arith))
 
   join-rows : (n : ℕ) (s : List ℕ) → join (rowsOf w n s) ≡ take (n * w) s
   unfolding rowsOf
   join-rows zero s = rw zero-mul
-  join-rows (suc n) s = rw (width-first, take-add) (ap (λ (t : List ℕ). take w s ++ t) (join-rows n (drop w s)))
+  join-rows (suc n) s = rw (width-first, take-add, join-rows n (drop w s))
 
   pub rows-wide : (n : ℕ) (s : List ℕ) → n * w ≤ length s → Wide w (rowsOf w n s)
   unfolding rowsOf
@@ -89,7 +89,8 @@ module _ (w : ℕ) where
   length-laid (r ∷ rows) s wide h =
       let e = width-first (length rows) in
       let l = length-drop w s in
-      rw (laid-more, length-append) (omega (arith, wide r (List·Memᴰ·head refl), length-laid rows (drop w s) (λ x i. wide x (List·Memᴰ·tail i)) (omega arith)))
+      let others = length-laid rows (drop w s) (λ x i. wide x (List·Memᴰ·tail i)) (omega arith) in
+      rw (laid-more, length-append) (omega (arith, wide r (List·Memᴰ·head refl)))
 
   -- Rows as they stand, laid where they stand.
   rows-laid : (n : ℕ) (s : List ℕ) → laid w (rowsOf w n s) s ≡ s
@@ -103,15 +104,16 @@ module _ (w : ℕ) where
   laid-rows [] s wide = refl
   laid-rows (r ∷ rows) s wide =
       let e = wide r (List·Memᴰ·head refl) in
-      rw (laid-more, take-at r (laid w rows (drop w s)) w e, drop-at r (laid w rows (drop w s)) w e)
-      (ap (λ (m : List (List ℕ)). r ∷ m) (laid-rows rows (drop w s) (λ x i. wide x (List·Memᴰ·tail i))))
+      let others = laid-rows rows (drop w s) (λ x i. wide x (List·Memᴰ·tail i)) in
+      rw (laid-more, take-at r (laid w rows (drop w s)) w e, drop-at r (laid w rows (drop w s)) w e, others)
 
   -- More rows laid over fewer.
   pub laid-laid : (m n : List (List ℕ)) (s : List ℕ) → Wide w m → length m ≤ length n → laid w n (laid w m s) ≡ laid w n s
   laid-laid [] n s wide h = ap (laid w n) (laid-none s)
   laid-laid (a ∷ m) [] s wide h = absurd (omega arith)
   laid-laid (a ∷ m) (b ∷ n) s wide h =
-      simp laid-more (rw (drop-at a (laid w m (drop w s)) w (wide a (List·Memᴰ·head refl))) (ap (λ (t : List ℕ). b ++ t) (laid-laid m n (drop w s) (λ x i. wide x (List·Memᴰ·tail i)) (omega arith))))
+      let others = laid-laid m n (drop w s) (λ x i. wide x (List·Memᴰ·tail i)) (omega arith) in
+      simp laid-more (rw (drop-at a (laid w m (drop w s)) w (wide a (List·Memᴰ·head refl)), others))
 
 -- ---- a row put in
 
@@ -125,7 +127,7 @@ take-put-in : {X : Type 0} (p q : ℕ) (r : X) (l : List X) → p ≤ q → take
 take-put-in zero q r l h = refl
 take-put-in (suc p) zero r l h = absurd (omega arith)
 take-put-in (suc p) (suc q) r [] h = refl
-take-put-in (suc p) (suc q) r (x ∷ l) h = ap (λ (m : List _). x ∷ m) (take-put-in p q r l (omega arith))
+take-put-in (suc p) (suc q) r (x ∷ l) h = rw (take-put-in p q r l (omega arith))
 
 module _ (w : ℕ) (r : List ℕ) where
   spliced-first : (q : ℕ) (s : List ℕ) → spliced (zero * w) (q * w) w r s ≡ laid w (r ∷ rowsOf w q s) s
@@ -142,7 +144,7 @@ module _ (w : ℕ) (r : List ℕ) where
   unfolding rowsOf
   spliced-rows zero q s h = spliced-first q s
   spliced-rows (suc p) zero s h = absurd (omega arith)
-  spliced-rows (suc p) (suc q) s h = rw (spliced-next, laid-more) (ap (λ (t : List ℕ). take w s ++ t) (spliced-rows p q (drop w s) (omega arith)))
+  spliced-rows (suc p) (suc q) s h = rw (spliced-next, laid-more, spliced-rows p q (drop w s) (omega arith))
 
 -- ---- the slot among rows read
 

@@ -1,7 +1,7 @@
 -- The slot of an element: how many elements stand before the first that it stands before, which is where an insertion puts it. In a list in
 -- order, where nothing stands before an earlier element, one comparison tells on which side of an element the slot is, so it can be found by
 -- halves; and an insertion keeps a list in order, also where keys are equal. Assumes nothing.
-use mathlib.Core.Path.{_≡_, refl, ap}
+use mathlib.Core.Path.{_≡_, refl}
 use mathlib.Core.Bool.{true, false, cond}
 use mathlib.Core.List.{List, [], _∷_, _++_, List·Memᴰ, List·Memᴰ·not-nil}
 use Prim.Native.Nat.{ℕ, zero, suc, _<_, _≤_}
@@ -14,6 +14,7 @@ use Rattle.page_laws.specs.Members.{each-more, take-within, getD-member}
 use Rattle.page_laws.specs.Insertion.{insert-put, put-out}
 
 module _ {X : Type 0} (key : X → List ℕ) where
+  -- How many elements stand before the first that r stands before.
   unfoldable pub slot : X → List X → ℕ
   slot r [] = 0
   slot r (x ∷ l) = cond (before (key r) (key x)) 0 (suc (slot r l))
@@ -22,6 +23,7 @@ module _ {X : Type 0} (key : X → List ℕ) where
   abbrev pub Least : X → List X → Type 0
   Least x l = (y : X) → List·Memᴰ y l → before (key y) (key x) ≡ false
 
+  -- No element stands before an earlier one.
   unfoldable pub Ordered : List X → Type 0
   Ordered [] = Unit {0}
   Ordered (x ∷ l) = Least x l × Ordered l
@@ -54,7 +56,7 @@ module _ {X : Type 0} (key : X → List ℕ) where
   pub insert-slot : (r : X) (l : List X) → insert key r l ≡ take (slot key r l) l ++ (r ∷ drop (slot key r l) l)
   unfolding insert slot
   insert-slot r [] = refl
-  insert-slot r (x ∷ l) = by-test (before (key r) (key x)) (λ t. rw t) (λ f. rw f (ap (λ (m : List X). x ∷ m) (insert-slot r l)))
+  insert-slot r (x ∷ l) = by-test (before (key r) (key x)) (λ t. rw t) (λ f. rw (f, insert-slot r l))
 
   -- Elements with one key have one slot.
   pub slot-by-key : (r s : X) (l : List X) → key r ≡ key s → slot key r l ≡ slot key s l

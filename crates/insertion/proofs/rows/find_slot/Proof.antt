@@ -35,15 +35,16 @@ in-lower-half : tie.Need-loop-again Inv-loop μ-loop
 in-lower-half c =
     let at = c .before .before .before in
     let g = at .before .before .before .args in
-    let down = slot-rows-down rowKey (g .width) (take (g .width) (g .row .now)) (g .out .now) (g .kept) _ (omega arith) (rw (c .before .stands-before .ensures) at (c .if1 .taken)) in
-    (omega arith, omega arith, at .loop .inv .2, down)
+    let t = rw (c .before .stands-before .ensures) at (c .if1 .taken) in
+    (omega arith, omega arith, at .loop .inv .2, slot-rows-down rowKey (g .width) (take (g .width) (g .row .now)) (g .out .now) (g .kept) _ (omega arith) t)
 
 in-upper-half : tie.Need-loop-again-2 Inv-loop μ-loop
 in-upper-half c =
     let at = c .before .before .before in
     let e = at .before .before .before in
     let g = e .args in
-    let up = slot-rows-up rowKey (g .width) (take (g .width) (g .row .now)) (g .out .now) (g .kept) _ (omega arith) (e .pre .3) (rw (c .before .stands-before .ensures) at (c .if1 .left)) in
+    let f = rw (c .before .stands-before .ensures) at (c .if1 .left) in
+    let up = slot-rows-up rowKey (g .width) (take (g .width) (g .row .now)) (g .out .now) (g .kept) _ (omega arith) (e .pre .3) f in
     (omega arith, omega arith, omega arith, at .loop .inv .3)
 
 pub find-slot-spec : {M : Type 1} → statement M

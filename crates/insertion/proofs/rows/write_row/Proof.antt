@@ -22,7 +22,8 @@ one-more-written : tie.Need-loop-again Inv-loop μ-loop
 one-more-written c =
     let at = c .before .before in
     let g = at .before .args in
-    (omega arith, simp length-set (at .loop .inv .1), rw (at .loop .inv .2, add-one) (paste-suc (g .out .now) (g .base) (g .row .now) (at .loop .i) 0 (omega arith) (omega arith)))
+    let one = paste-suc (g .out .now) (g .base) (g .row .now) (at .loop .i) 0 (omega arith) (omega arith) in
+    (omega arith, simp length-set (at .loop .inv .1), rw (at .loop .inv .2, add-one) one)
 
 all-written : tie.Need-returns Inv-loop μ-loop
 all-written c = let done : c .before .loop .i ≡ c .before .before .args .width = omega arith in rw done at (c .before .loop .inv .2)
