@@ -79,7 +79,7 @@ grown-nonzero m p zero g =
     absurd (omega (arith, g .proper .degree-p .least))
 grown-nonzero m p (suc q) g = omega arith
 
--- where it hangs
+-- s is one level below `above`, by the quotient a
 pub record Hangs (m : ℕ) (s : Pair) : Type 0 where
   pub a : ℕ
   pub above : Pair

@@ -3,7 +3,7 @@
 -- Assumes nothing.
 use mathlib.Core.Path.{_≡_, refl, ap, _∙_}
 use mathlib.Core.Bool.{Bool, true, false, not, _&&_, and-true}
-use Prim.Native.Nat.{ℕ, zero, suc, _+_, _-_, _*_, _≤_, _<_}
+use Prim.Native.Nat.{ℕ, zero, suc, _+_, _-_, _≤_, _<_}
 use native.Mathlib.Nat.{zero-add, suc-add}
 use native.Mathlib.Omega.{arith}
 use native.Mathlib.Decide.{ℕ-discrete}
@@ -17,7 +17,7 @@ unfolding count
 count-ext zero test other same = refl
 count-ext (suc n) test other same = rw (same n (omega arith), count-ext n test other (λ i l. same i (omega arith)))
 
-pub count-every : (n : ℕ) → count n (λ i. true) ≡ n
+count-every : (n : ℕ) → count n (λ i. true) ≡ n
 unfolding count
 count-every zero = refl
 count-every (suc n) = omega (arith, count-every n)
@@ -35,25 +35,14 @@ unfolding count
 count-split zero test other = refl
 count-split (suc n) test other = omega (arith, count-split n test other, bit-split (test n) (other n))
 
-pub count-not : (n : ℕ) (test : ℕ → Bool) → count n test + count n (λ i. not (test i)) ≡ n
+count-not : (n : ℕ) (test : ℕ → Bool) → count n test + count n (λ i. not (test i)) ≡ n
 count-not n test = count-split n (λ i. true) test ∙ count-every n
 
-pub count-none : (n : ℕ) (test : ℕ → Bool) → ((i : ℕ) → i < n → test i ≡ false) → count n test ≡ 0
-count-none n test none = omega (arith, count-not n test, count-all n (λ i. not (test i)) (λ i l. ap not (none i l)))
-
--- ---- parts of the range: below a and from a on; even and odd
+-- ---- the numbers below a, and the rest counted from a
 pub count-add : (a n : ℕ) (test : ℕ → Bool) → count (n + a) test ≡ count n (λ i. test (i + a)) + count a test
 unfolding count
 count-add a zero test = simp zero-add
 count-add a (suc n) test = rw suc-add (omega (arith, count-add a n test))
-
-pub count-double : (n : ℕ) (test : ℕ → Bool) → count (n * 2) test ≡ count n (λ i. test (i * 2)) + count n (λ i. test (i * 2 + 1))
-unfolding count
-count-double zero test = refl
-count-double (suc n) test =
-    let two : suc n * 2 ≡ suc (n * 2 + 1) = omega arith in
-    let one : n * 2 + 1 ≡ suc (n * 2) = omega arith in
-    rw (two, one) (omega (arith, count-double n test))
 
 -- ---- single numbers: one left out, one found
 pub count-without : (n y : ℕ) (test : ℕ → Bool) → y < n → test y ≡ true → suc (count n (λ i. test i && not (eqb i y))) ≡ count n test
@@ -87,7 +76,7 @@ count-some (suc n) test some = go (test n) refl (count-some n test)
         record { number = w .number; below = omega (arith, w .below); passes = w .passes }
 
 -- ---- one-to-one maps
-pub count-inject : (n k : ℕ) (g : ℕ → ℕ) → ((i : ℕ) → i < k → g i < n) → ((i j : ℕ) → i < k → j < k → g i ≡ g j → i ≡ j)
+count-inject : (n k : ℕ) (g : ℕ → ℕ) → ((i : ℕ) → i < k → g i < n) → ((i j : ℕ) → i < k → j < k → g i ≡ g j → i ≡ j)
     → (test : ℕ → Bool) → count k (λ i. test (g i)) ≤ count n test
 unfolding count
 count-inject n zero g into apart test = omega arith

@@ -126,12 +126,8 @@ map-once f (x ∷ l) apart n =
 -- Lists joined, one for each element of another list.
 module _ {X Y : Type 0} (f : X → List Y) where
   pub join-map-in : (l : List X) {x : X} {y : Y} → List·Memᴰ x l → List·Memᴰ y (f x) → List·Memᴰ y (join (map f l))
-  join-map-in [] m k = absurd (List·Memᴰ·not-nil m)
-  join-map-in (z ∷ l) {x} {y} m k = go (List·Memᴰ·cases-cons m) (λ h. join-map-in l h k)
-    where
-      go : (x ≡ z) ⊎ List·Memᴰ x l → (List·Memᴰ x l → List·Memᴰ y (join (map f l))) → List·Memᴰ y (f z ++ join (map f l))
-      go (inl e) ih = Memᴰ·append-left (join (map f l)) (subst (λ (t : X). List·Memᴰ y (f t)) e k)
-      go (inr h) ih = Memᴰ·append-right (f z) (ih h)
+  join-map-in (z ∷ l) (List·Memᴰ·head e) k = Memᴰ·append-left (join (map f l)) (rw e at k)
+  join-map-in (z ∷ l) (List·Memᴰ·tail m) k = Memᴰ·append-right (f z) (join-map-in l m k)
 
   pub join-map-out : (l : List X) {y : Y} → List·Memᴰ y (join (map f l)) → (x : X) × List·Memᴰ x l × List·Memᴰ y (f x)
   join-map-out [] m = absurd (List·Memᴰ·not-nil m)

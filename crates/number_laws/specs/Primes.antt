@@ -94,7 +94,7 @@ within (suc k) (suc (suc n)) pos h =
     let (p, part) = prime-divisor N (omega arith) in
     divisors-more _ N _ p part (within k _ (quotient-positive _ N part pos) (omega (arith, div-lt-self pos (p .above))))
 
-pub prime-factors : (n : ℕ) → 0 < n → PrimeDivisors n (primeFactors n)
+prime-factors : (n : ℕ) → 0 < n → PrimeDivisors n (primeFactors n)
 prime-factors n pos = unfold primeFactors in within n n pos (omega arith)
 
 -- ---- that a list has exactly these, computed

@@ -11,7 +11,7 @@ use Rattle.polynomial_laws.specs.Degree.{HasDegree, positive, degree-unique}
 use Rattle.polynomial_laws.specs.Division.{rem-lt, rem-prod, rem-prod-right}
 use Rattle.polynomial_laws.specs.Power.{powers-prod, power-zero, power-suc, rem-one}
 
-pub state-zero : (p q : ℕ) → state p q 0 ≡ 1
+state-zero : (p q : ℕ) → state p q 0 ≡ 1
 state-zero p q = unfold state in refl
 
 pub state-suc : (p q i : ℕ) → state p q (suc i) ≡ rem (prod q (state p q i)) p
