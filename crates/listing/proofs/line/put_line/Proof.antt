@@ -9,17 +9,11 @@ use Rattle.listing.specs.Place.{put, not-put}
 use Rattle.listing.proofs.line.put_line.Statement.{statement}
 use Rattle.listing.proofs.line.put_line.Tie as tie
 
-digits-requires : tie.Need-digits-requires
-digits-requires c κs = search needs
-
 add-fits : tie.Need-add-fits
 add-fits c = omega (arith, decimal-short (c .before .before .before .before .args .n))
 
 add-fits-2 : tie.Need-add-fits-2
 add-fits-2 c = omega (arith, decimal-short (c .before .before .before .before .args .n))
-
-fits-requires : tie.Need-fits-requires
-fits-requires c κs = search needs
 
 write-field-requires : tie.Need-write-field-requires
 write-field-requires c κs =
@@ -44,9 +38,6 @@ add-result c =
     let room = line-room (now (a .word)) (a .n) (a .at) (now (a .out)) (tested .before .digits .ensures) (sym (tested .fits2 .ensures) ∙ written .before .before .if1 .taken) in
     omega (arith, line-end (now (a .word)) (a .n) (a .at) (now (a .out)) room (written .write-field .ensures .0) (written .write-field .ensures .1) .1)
 
-same-length : tie.Need-same-length
-same-length c = search needs
-
 returns : tie.Need-returns
 returns c =
     let written = c .before .before in
@@ -56,9 +47,6 @@ returns c =
     let end = line-end (now (a .word)) (a .n) (a .at) (now (a .out)) room (written .write-field .ensures .0) (written .write-field .ensures .1) in
     put (a .at) (shortLine (now (a .word)) (a .n)) (now (a .out)) room (end .1) (end .2)
 
-same-length-2 : tie.Need-same-length-2
-same-length-2 c = search needs
-
 returns-2 : tie.Need-returns-2
 returns-2 c =
     let tested = c .before in
@@ -67,16 +55,5 @@ returns-2 c =
 
 pub put-line-spec : {M : Type 1} → statement M
 put-line-spec =
-    tie.close
-    (tie.spec
-    digits-requires
-    add-fits
-    add-fits-2
-    fits-requires
-    write-field-requires
-    slice-write-out
-    add-result
-    same-length
-    returns
-    same-length-2
-    returns-2)
+    tie.close (tie.spec (search needs) add-fits add-fits-2 (search needs) write-field-requires slice-write-out add-result
+    (λ c. search needs) returns (search needs) returns-2)

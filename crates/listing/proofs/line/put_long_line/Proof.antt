@@ -9,17 +9,11 @@ use Rattle.listing.specs.Place.{put, not-put}
 use Rattle.listing.proofs.line.put_long_line.Statement.{statement}
 use Rattle.listing.proofs.line.put_long_line.Tie as tie
 
-digits-requires : tie.Need-digits-requires
-digits-requires c κs = search needs
-
 add-fits : tie.Need-add-fits
 add-fits c = omega (arith, decimal-short (c .before .before .before .before .before .before .args .n))
 
 add-fits-2 : tie.Need-add-fits-2
 add-fits-2 c = omega (arith, decimal-short (c .before .before .before .before .before .before .args .n))
-
-digits-requires-2 : tie.Need-digits-requires-2
-digits-requires-2 c κs = search needs
 
 add-fits-3 : tie.Need-add-fits-3
 add-fits-3 c =
@@ -31,9 +25,6 @@ add-fits-4 c =
     let a = c .before .before .before .before .before .before .before .args in
     omega (arith, decimal-short (a .n), decimal-short (a .k))
 
-fits-requires : tie.Need-fits-requires
-fits-requires c κs = search needs
-
 write-long-line-requires : tie.Need-write-long-line-requires
 write-long-line-requires c κs =
     let tested = c .before .before in
@@ -41,9 +32,6 @@ write-long-line-requires c κs =
     let one = two .before in
     let a = one .before .before .before .before .before .before .args in
     long-room (now (a .word)) (a .n) (now (a .other)) (a .k) (now (a .ending)) (a .at) (now (a .out)) (one .digits .ensures) (two .digits2 .ensures) (sym (tested .fits2 .ensures) ∙ c .before .if1 .taken)
-
-same-length : tie.Need-same-length
-same-length c = search needs
 
 returns : tie.Need-returns
 returns c =
@@ -55,9 +43,6 @@ returns c =
     let room = long-room (now (a .word)) (a .n) (now (a .other)) (a .k) (now (a .ending)) (a .at) (now (a .out)) (one .digits .ensures) (two .digits2 .ensures) (sym (tested .fits2 .ensures) ∙ written .before .before .if1 .taken) in
     put (a .at) (longLine (now (a .word)) (a .n) (now (a .other)) (a .k) (now (a .ending))) (now (a .out)) room (written .write-long-line .ensures .0) (written .write-long-line .ensures .1)
 
-same-length-2 : tie.Need-same-length-2
-same-length-2 c = search needs
-
 returns-2 : tie.Need-returns-2
 returns-2 c =
     let tested = c .before in
@@ -68,17 +53,5 @@ returns-2 c =
 
 pub put-long-line-spec : {M : Type 1} → statement M
 put-long-line-spec =
-    tie.close
-    (tie.spec
-    digits-requires
-    add-fits
-    add-fits-2
-    digits-requires-2
-    add-fits-3
-    add-fits-4
-    fits-requires
-    write-long-line-requires
-    same-length
-    returns
-    same-length-2
-    returns-2)
+    tie.close (tie.spec (search needs) add-fits add-fits-2 (search needs) add-fits-3 add-fits-4 (search needs)
+    write-long-line-requires (search needs) returns (search needs) returns-2)

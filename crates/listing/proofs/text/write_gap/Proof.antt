@@ -19,12 +19,6 @@ returns c =
 slice-write-out : tie.Need-slice-write-out
 slice-write-out c = omega (arith, ap length (gap-other (c .before .args .i) (c .if1 .left)))
 
-add-result : tie.Need-add-result
-add-result c = search needs
-
-same-length : tie.Need-same-length
-same-length c = search needs
-
 returns-2 : tie.Need-returns-2
 returns-2 c =
     let a = c .before .args in
@@ -32,4 +26,4 @@ returns-2 c =
     rw gap (mathlib.Core.Path.refl, over-byte (a .at) space (now (a .out)) (omega (arith, ap length gap)))
 
 pub write-gap-spec : {M : Type 1} → statement M
-write-gap-spec = tie.close (tie.spec returns slice-write-out add-result same-length returns-2)
+write-gap-spec = tie.close (tie.spec returns slice-write-out (search needs) (search needs) returns-2)

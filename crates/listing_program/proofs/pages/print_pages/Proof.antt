@@ -35,15 +35,6 @@ part c =
     let same : length (c .next-part .last .0) ≡ length (now (start .args .rows)) = c .next-part .kept .0 ∙ here .inv .0 in
     (same, few (start .args .top) (c .next-part .result .count) (length (c .next-part .last .0)) (c .next-part .ensures) (omega (arith, start .pre .1 .1 .0)))
 
-print-header-requires : tie.Need-print-header-requires Inv-loop μ-loop
-print-header-requires c κs = search needs
-
-print-empty-requires : tie.Need-print-empty-requires Inv-loop μ-loop
-print-empty-requires c κs = search needs
-
-add-width : tie.Need-add-width Inv-loop μ-loop
-add-width c = search needs
-
 print-rows-requires : tie.Need-print-rows-requires Inv-loop μ-loop
 print-rows-requires c κs =
     let start = c .before .before .before .before in
@@ -90,33 +81,11 @@ loop-again c =
     let called = c .before .before .before .before in
     (part called .0, called .next-part .ensures, omega (arith, part called .1, turn (called .before) .1))
 
-print-total-requires : tie.Need-print-total-requires Inv-loop μ-loop
-print-total-requires c κs = search needs
-
 same-length : tie.Need-same-length Inv-loop μ-loop
 same-length c = c .before .before .loop .inv .0
 
-returns : tie.Need-returns Inv-loop μ-loop
-returns c = search needs
-
 pub print-pages-spec : {M : Type 1} → statement M
 print-pages-spec =
-    tie.close
-    (tie.spec
-    Inv-loop
-    μ-loop
-    print-header-requires
-    print-empty-requires
-    add-width
-    print-rows-requires
-    cast-done
-    loop-holds
-    next-part-requires
-    print-rows-requires-2
-    cast-done-2
-    add-done
-    loop-less
-    loop-again
-    print-total-requires
-    same-length
-    returns)
+    tie.close (tie.spec Inv-loop μ-loop (search needs) (search needs) (search needs) print-rows-requires cast-done
+    loop-holds next-part-requires print-rows-requires-2 cast-done-2 add-done loop-less loop-again (search needs)
+    same-length (search needs))
