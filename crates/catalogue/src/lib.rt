@@ -27,7 +27,11 @@ pub fn lookup(file: &[u8], degree: u32) -> Lookup
     ensures { λ r. ⌜ r ≡ lookupNumbers (now (file .entry)) degree ⌝ }
 {
     match seek::seek(file, degree) {
-        Sought::At(i) => Lookup::Body(form::entry_top(file, i), form::entry_rows(file, i)),
+        Sought::At(i) => {
+            let top = form::entry_top(file, i);
+            let rows = form::entry_rows(file, i);
+            Lookup::Body(top, rows)
+        }
         Sought::Missing(refusal) => Lookup::NoBody(refusal),
     }
 }

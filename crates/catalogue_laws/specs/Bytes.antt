@@ -8,7 +8,8 @@ use native.Mathlib.Nat.{pow-suc, div-lt-iff-lt-mul, div-add-mod'}
 use native.Mathlib.Omega.{arith}
 use lib.ListN.{length, getD, take, drop, length-append, List·getD-append}
 use lib.Seq.{getD-append-add, take-at, drop-at}
-use Rattle.definitions.specs.Catalogue.{byteAt, numberAt, bytesOf}
+use Rattle.definitions.specs.Catalogue.{byteAt, numberAt}
+use Rattle.catalogue_laws.specs.Encoding.{bytesOf}
 
 -- ---- parts
 

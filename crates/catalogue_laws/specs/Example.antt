@@ -5,7 +5,10 @@ use mathlib.Core.Bool.{true}
 use mathlib.Core.List.{List, [], _∷_}
 use Prim.Native.Nat.{ℕ}
 use Rattle.definitions.specs.Ranking.{ranked}
-use Rattle.definitions.specs.Catalogue.{catalogueForm, opening, lookupNumbers, lookupPart, readerTop, catalogueBytes}
+use Rattle.definitions.specs.Examples.{calls}
+use Rattle.definitions.specs.Answers.{unless}
+use Rattle.definitions.specs.Catalogue.{numberAt, entryAt, rowForm, entryForm, entriesForm, catalogueForm, opening, entryOf, looking, lookupNumbers, lookupPart, readerTop, atRow, rowAt, nextRow, nextPlace}
+use Rattle.catalogue_laws.specs.Encoding.{bytesOf, rowBytes, bodyBytes, entryBytes, contentsBytes, catalogueBytes}
 use Rattle.definitions.specs.declared.NextRow.{NextRow}
 use Rattle.definitions.specs.declared.NextRow.the-variants.{Found, End}
 use Rattle.definitions.specs.declared.Opening.the-variants.{Entries}
@@ -22,16 +25,21 @@ printed =
     ∷ 0 ∷ 5 ∷ 0 ∷ 7 ∷ 0 ∷ 4 ∷ 1 ∷ 1
     ∷ []
 
+-- To unfold this is to unfold what a file's form is defined by, so that it computes.
+form : ℕ
+unfolding calls numberAt entryAt rowForm entryForm entriesForm catalogueForm unless looking entryOf
+form = 0
+
 pub printed-form : catalogueForm printed ≡ true
-unfolding printed catalogueForm
+unfolding printed form
 printed-form = refl
 
 pub printed-opens : opening printed ≡ Entries 1
-unfolding printed opening
+unfolding printed form opening
 printed-opens = refl
 
 pub printed-numbers : lookupNumbers printed 3 ≡ Body 4 4
-unfolding printed lookupNumbers
+unfolding printed form lookupNumbers
 printed-numbers = refl
 
 -- p, q and the step, with t(3) and t(4).
@@ -39,9 +47,9 @@ abbrev row : ℕ → ℕ → ℕ → NextRow
 row p q step = Found (record { p = p; q = q; step = step; t3 = 1; t4 = 1; t5 = 0; t6 = 0; t7 = 0; t8 = 0 })
 
 pub printed-rows : handsOut 5 3 (readerTop printed 3) (lookupPart printed 3) 0 ≡ row 11 4 2 ∷ row 11 7 5 ∷ row 13 5 3 ∷ row 13 7 4 ∷ End ∷ []
-unfolding printed handsOut readerTop lookupPart
+unfolding printed form handsOut readerTop lookupPart atRow rowAt nextRow nextPlace
 printed-rows = refl
 
 pub printed-bytes : catalogueBytes (record { degree = 3; top = 4; rows = ranked 3 4 } ∷ []) ≡ printed
-unfolding printed catalogueBytes ranked
+unfolding printed calls bytesOf rowBytes bodyBytes entryBytes contentsBytes catalogueBytes
 printed-bytes = refl

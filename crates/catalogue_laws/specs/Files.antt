@@ -10,7 +10,8 @@ use native.Mathlib.Omega.{arith}
 use lib.ListN.{length, getD, length-append}
 use borrow.Author.Tests.{le-leb, eq-eqb}
 use Rattle.definitions.specs.Number.{join}
-use Rattle.definitions.specs.Catalogue.{byteAt, numberAt, bytesOf, rowSize, contentsSize, Entry, entryAt, bodySize, rowForm, entryForm, entriesForm, catalogueForm, Listed, bodyBytes, entryBytes, contentsBytes, catalogueBytes}
+use Rattle.definitions.specs.Catalogue.{byteAt, numberAt, rowSize, contentsSize, Entry, entryAt, bodySize, rowForm, entryForm, entriesForm, catalogueForm}
+use Rattle.catalogue_laws.specs.Encoding.{bytesOf, Listed, bodyBytes, entryBytes, contentsBytes, catalogueBytes}
 use Rattle.number_laws.specs.Every.{every-in}
 use Rattle.catalogue_laws.specs.Form.{entry-rows, catalogue-entries}
 use Rattle.catalogue_laws.specs.Bytes.{Stands, stands-first, stands-rest, stands-whole, stands-byte, stands-number, bytes-length}

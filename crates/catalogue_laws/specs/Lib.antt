@@ -5,6 +5,7 @@ pub mod Lookup
 pub mod Outcome
 pub mod Reader
 pub mod Example
+pub mod Encoding
 pub mod Bytes
 pub mod Written
 pub mod Files

@@ -9,7 +9,8 @@ use native.Mathlib.Omega.{arith}
 use lib.ListN.{length, getD, take, drop, replicate}
 use borrow.Author.Tests.{le-leb, eq-eqb, ne-eqb}
 use Rattle.definitions.specs.Number.{numbers}
-use Rattle.definitions.specs.Catalogue.{byteAt, rowSize, rowBytes, Entry, entryAt, bodySize, rowAt, entryOf, opening, lookupNumbers, lookupPart, readerTop, Listed, bodyBytes, contentsSize, catalogueBytes}
+use Rattle.definitions.specs.Catalogue.{byteAt, rowSize, Entry, entryAt, bodySize, rowAt, entryOf, opening, lookupNumbers, lookupPart, readerTop, contentsSize}
+use Rattle.catalogue_laws.specs.Encoding.{rowBytes, Listed, bodyBytes, catalogueBytes}
 use Rattle.definitions.specs.declared.NextRow.{NextRow}
 use Rattle.definitions.specs.declared.NextRow.the-variants.{Found, End}
 use Rattle.definitions.specs.declared.Opening.the-variants.{Entries}

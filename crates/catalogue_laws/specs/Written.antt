@@ -13,7 +13,8 @@ use lib.ListN.{length, getD, drop, length-append, length-drop, List·getD-eq-def
 use lib.Seq.{getD-drop}
 use borrow.Author.Tests.{le-leb}
 use Rattle.definitions.specs.Number.{join}
-use Rattle.definitions.specs.Catalogue.{byteAt, numberAt, bytesOf, rowSize, rowForm, tAt, rowAt, rowBytes}
+use Rattle.definitions.specs.Catalogue.{byteAt, numberAt, rowSize, rowForm, tAt, rowAt}
+use Rattle.catalogue_laws.specs.Encoding.{bytesOf, rowBytes}
 use Rattle.definitions.specs.declared.Row.{Row}
 use Rattle.number_laws.specs.Every.{every-in}
 use Rattle.catalogue_laws.specs.Form.{row-values}
@@ -44,7 +45,7 @@ rowOf r = record {
 }
 
 pub row-length : (m top : ℕ) (r : List ℕ) → 3 ≤ top → LawfulRow m top r → length (rowBytes m r) ≡ rowSize top
-unfolding rowBytes
+unfolding rowBytes bytesOf
 row-length m top r l h = simp length-drop (omega (arith, h .width))
 
 module _ (m top : ℕ) (r : List ℕ) (s : List ℕ) (at : ℕ) (m-most : m ≤ 16) (top-least : 3 ≤ top) (h : LawfulRow m top r) (stands : Stands s at (rowBytes m r)) where

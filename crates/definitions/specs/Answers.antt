@@ -1,22 +1,6 @@
 -- Refusals: their numbers, the situations in which they are given, and the values of each answer. Assumes nothing.
-use mathlib.Core.Bool.{Bool, true, false}
-use mathlib.Core.List.{List, [], _∷_}
-use Prim.Native.Nat.{ℕ}
+use Rattle.definitions.specs.Base.{Bool, true, false, List, [], _∷_, ℕ, Refusal, WrongDegree, WrongDimension, IllFormedPair, NotPrimitive, QuotientNotLinear, StepNotCoprime, ShortSlice, BeyondPeriod, IllFormedCatalogue, DegreeMissing, Judgement, Accepted, Rejected, Uniformity, Value, Undefined, PageAnswer, Page, NoPage, PointsAnswer, Written, NotWritten, Opening, Entries, Closed, Lookup, Body, NoBody}
 use Rattle.definitions.specs.Number.{bit}
-use Rattle.definitions.specs.declared.Refusal.{Refusal}
-use Rattle.definitions.specs.declared.Refusal.the-variants.{WrongDegree, WrongDimension, IllFormedPair, NotPrimitive, QuotientNotLinear, StepNotCoprime, ShortSlice, BeyondPeriod, IllFormedCatalogue, DegreeMissing}
-use Rattle.definitions.specs.declared.Judgement.{Judgement}
-use Rattle.definitions.specs.declared.Judgement.the-variants.{Accepted, Rejected}
-use Rattle.definitions.specs.declared.Uniformity.{Uniformity}
-use Rattle.definitions.specs.declared.Uniformity.the-variants.{Value, Undefined}
-use Rattle.definitions.specs.declared.PageAnswer.{PageAnswer}
-use Rattle.definitions.specs.declared.PageAnswer.the-variants.{Page, NoPage}
-use Rattle.definitions.specs.declared.PointsAnswer.{PointsAnswer}
-use Rattle.definitions.specs.declared.PointsAnswer.the-variants.{Written, NotWritten}
-use Rattle.definitions.specs.declared.Opening.{Opening}
-use Rattle.definitions.specs.declared.Opening.the-variants.{Entries, Closed}
-use Rattle.definitions.specs.declared.Lookup.{Lookup}
-use Rattle.definitions.specs.declared.Lookup.the-variants.{Body, NoBody}
 
 -- Document 01's number of each refusal.
 abbrev pub refusalNumber : Refusal → ℕ

@@ -1,33 +1,15 @@
 -- Judging, a single t-value, pages and points: what each call answers and what each lent slice holds afterwards, for every input.
 -- Assumes nothing.
-use mathlib.Core.Bool.{Bool, true, false, not}
-use mathlib.Core.List.{List, [], _∷_, _++_}
-use Prim.Native.Nat.{ℕ, suc, _-_, _/_, min}
-use lib.Dec.{ltb}
-use lib.ListN.{length, drop}
+use Rattle.definitions.specs.Base.{Bool, not, List, [], _∷_, _++_, ℕ, _-_, _/_, min, ltb, length, drop, Refusal, WrongDegree, WrongDimension, IllFormedPair, NotPrimitive, QuotientNotLinear, StepNotCoprime, ShortSlice, BeyondPeriod, Position, Start, After, PageRequest, Judgement, Accepted, Rejected, Uniformity, Value, Undefined, PageAnswer, Page, NoPage, PointsAnswer, Written, NotWritten}
 use Rattle.definitions.specs.Answers.{Situation, situation, unless}
 use Rattle.definitions.specs.Generator.{lawfulDegree, wellFormed, period, primitive, linearQuotients, coprimeStep, step}
 use Rattle.definitions.specs.Points.{words}
 use Rattle.definitions.specs.Net.{tValue}
-use Rattle.definitions.specs.Pages.{Place, page, more, laid}
+use Rattle.definitions.specs.Pages.{page, more, laid}
 use Rattle.definitions.specs.Ranking.{lawfulTop, lawfulDimension, rowWidth, rowKey, ranked, placeOf}
-use Rattle.definitions.specs.declared.Refusal.{Refusal}
-use Rattle.definitions.specs.declared.Refusal.the-variants.{WrongDegree, WrongDimension, IllFormedPair, NotPrimitive, QuotientNotLinear, StepNotCoprime, ShortSlice, BeyondPeriod}
-use Rattle.definitions.specs.declared.Position.{Position}
-use Rattle.definitions.specs.declared.Position.the-variants.{Start, After}
-use Rattle.definitions.specs.declared.PageRequest.{PageRequest}
-use Rattle.definitions.specs.declared.Judgement.{Judgement}
-use Rattle.definitions.specs.declared.Judgement.the-variants.{Accepted, Rejected}
-use Rattle.definitions.specs.declared.Uniformity.{Uniformity}
-use Rattle.definitions.specs.declared.Uniformity.the-variants.{Value, Undefined}
-use Rattle.definitions.specs.declared.PageAnswer.{PageAnswer}
-use Rattle.definitions.specs.declared.PageAnswer.the-variants.{Page, NoPage}
-use Rattle.definitions.specs.declared.PointsAnswer.{PointsAnswer}
-use Rattle.definitions.specs.declared.PointsAnswer.the-variants.{Written, NotWritten}
 
 -- The situations that concern a pair, of a lawful degree: 3 to 6.
 unfoldable pub pairSituations : ℕ → ℕ → ℕ → List Situation
-unfolding wellFormed primitive linearQuotients coprimeStep
 pairSituations m p q =
     situation (not (wellFormed m p q)) IllFormedPair
     ∷ situation (not (primitive m p)) NotPrimitive
@@ -37,16 +19,13 @@ pairSituations m p q =
 
 -- Judging: 1, 3 to 6; else the step.
 unfoldable pub judging : ℕ → ℕ → ℕ → List Situation
-unfolding pairSituations
 judging m p q = situation (not (lawfulDegree m)) WrongDegree ∷ pairSituations m p q
 
 unfoldable pub judgement : ℕ → ℕ → ℕ → Judgement
-unfolding unless judging step
 judgement m p q = unless (judging m p q) Rejected (Accepted (step m p q))
 
 -- A single t-value: 1 to 3; else the t-value.
 unfoldable pub measuring : ℕ → ℕ → ℕ → ℕ → List Situation
-unfolding wellFormed
 measuring m p q s =
     situation (not (lawfulDegree m)) WrongDegree
     ∷ situation (not (lawfulDimension s)) WrongDimension
@@ -54,17 +33,14 @@ measuring m p q s =
     ∷ []
 
 unfoldable pub uniformity : ℕ → ℕ → ℕ → ℕ → Uniformity
-unfolding unless measuring tValue
 uniformity m p q s = unless (measuring m p q s) Undefined (Value (tValue m p q s))
 
 -- A page: 1 and 2, then for a position after a pair 3 to 6, then 7.
 unfoldable pub positionSituations : ℕ → Position → List Situation
-unfolding pairSituations
 positionSituations m Start = []
 positionSituations m (After p q) = pairSituations m p q
 
 unfoldable pub paging : PageRequest → List ℕ → List Situation
-unfolding positionSituations
 paging r s =
     situation (not (lawfulDegree (r .degree))) WrongDegree
     ∷ situation (not (lawfulTop (r .top))) WrongDimension
@@ -78,34 +54,27 @@ capacity r s = length s / rowWidth (r .top)
 
 -- The rows of a page: those of the ranked list above the position, as many as fit.
 unfoldable pub pageRows : PageRequest → List ℕ → List (List ℕ)
-unfolding page placeOf ranked
 pageRows r s = page rowKey (placeOf (r .degree) (r .top) (r .position)) (capacity r s) (ranked (r .degree) (r .top))
 
 unfoldable pub furtherRow : PageRequest → List ℕ → Bool
-unfolding more placeOf ranked
 furtherRow r s = more rowKey (placeOf (r .degree) (r .top) (r .position)) (capacity r s) (ranked (r .degree) (r .top))
 
 unfoldable pub pageAnswer : PageRequest → List ℕ → PageAnswer
-unfolding unless paging pageRows furtherRow
 pageAnswer r s = unless (paging r s) NoPage (Page (length (pageRows r s)) (furtherRow r s))
 
 unfoldable pub pageSlice : PageRequest → List ℕ → List ℕ
-unfolding unless paging pageRows laid
 pageSlice r s = unless (paging r s) (λ (n : Refusal). s) (laid (rowWidth (r .top)) (pageRows r s) s)
 
 -- Points: 1, 3 to 6, 8; else words first, first + 1, .. until the slice or the period ends. The last index is 2^m - 2.
 unfoldable pub pointing : ℕ → ℕ → ℕ → ℕ → List Situation
-unfolding judging
 pointing m p q first = judging m p q ++ situation (ltb (period m - 1) first) BeyondPeriod ∷ []
 
 abbrev pub wordCount : ℕ → ℕ → List ℕ → ℕ
 wordCount m first s = min (length s) (period m - first)
 
 unfoldable pub pointsAnswer : ℕ → ℕ → ℕ → ℕ → List ℕ → PointsAnswer
-unfolding unless pointing
 pointsAnswer m p q first s = unless (pointing m p q first) NotWritten (Written (wordCount m first s))
 
 unfoldable pub pointsSlice : ℕ → ℕ → ℕ → ℕ → List ℕ → List ℕ
-unfolding unless pointing words
 pointsSlice m p q first s =
     unless (pointing m p q first) (λ (n : Refusal). s) (words p q first (wordCount m first s) ++ drop (wordCount m first s) s)

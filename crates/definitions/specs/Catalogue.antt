@@ -1,22 +1,9 @@
--- The catalogue: its form, opening it, looking a degree up, reading a body row by row; and the bytes of a catalogue. Assumes nothing.
-use mathlib.Core.Bool.{Bool, true, false, cond, not, _&&_}
-use mathlib.Core.List.{List, [], _∷_, _++_, map}
-use Prim.Native.Nat.{ℕ, zero, suc, _+_, _-_, _*_, _/_, _%_, _^_}
-use lib.Dec.{eqb, leb, ltb}
-use lib.ListN.{length, take, drop, getD}
-use Rattle.definitions.specs.Number.{first, every, join}
+-- The catalogue: its form, opening it, looking a degree up, reading a body row by row. Assumes nothing.
+use Rattle.definitions.specs.Base.{Bool, cond, not, _&&_, List, [], _∷_, ℕ, zero, suc, _+_, _-_, _*_, _%_, _^_, eqb, leb, ltb, length, take, drop, getD, Refusal, WrongDegree, IllFormedCatalogue, DegreeMissing, Opening, Entries, Closed, Lookup, Body, NoBody, Row, NextRow, Found, End}
+use Rattle.definitions.specs.Number.{first, every}
 use Rattle.definitions.specs.Answers.{Situation, situation, unless}
 use Rattle.definitions.specs.Generator.{leastDegree, largestDegree, lawfulDegree}
 use Rattle.definitions.specs.Ranking.{leastTop, lawfulTop}
-use Rattle.definitions.specs.declared.Refusal.{Refusal}
-use Rattle.definitions.specs.declared.Refusal.the-variants.{WrongDegree, IllFormedCatalogue, DegreeMissing}
-use Rattle.definitions.specs.declared.Opening.{Opening}
-use Rattle.definitions.specs.declared.Opening.the-variants.{Entries, Closed}
-use Rattle.definitions.specs.declared.Lookup.{Lookup}
-use Rattle.definitions.specs.declared.Lookup.the-variants.{Body, NoBody}
-use Rattle.definitions.specs.declared.Row.{Row}
-use Rattle.definitions.specs.declared.NextRow.{NextRow}
-use Rattle.definitions.specs.declared.NextRow.the-variants.{Found, End}
 
 -- ---- numbers in a file, big-endian
 
@@ -28,23 +15,11 @@ unfoldable pub numberAt : ℕ → List ℕ → ℕ → ℕ
 numberAt zero s i = 0
 numberAt (suc w) s i = numberAt w s i * 256 + byteAt s (i + w)
 
--- A number in w bytes.
-unfoldable pub bytesOf : ℕ → ℕ → List ℕ
-bytesOf zero n = []
-bytesOf (suc w) n = bytesOf w (n / 256) ++ (n % 256 ∷ [])
-
 -- ---- the form
 
--- There are at most as many entries as lawful degrees.
-abbrev pub mostEntries : ℕ
-mostEntries = suc largestDegree - leastDegree
-
-abbrev pub entrySize : ℕ
-entrySize = 8
-
--- The first body lies behind the first byte and the n entries.
+-- The first body lies behind the first byte and the n entries of 8 bytes.
 abbrev pub contentsSize : ℕ → ℕ
-contentsSize n = 1 + entrySize * n
+contentsSize n = 1 + 8 * n
 
 -- A row of a body: p without its leading term, q and σ in two bytes each, then t(3) .. t(T) in one.
 abbrev pub rowSize : ℕ → ℕ
@@ -57,7 +32,6 @@ pub record Entry : Type 0 where
   pub offset : ℕ
 
 unfoldable pub entryAt : List ℕ → ℕ → Entry
-unfolding numberAt
 entryAt s i =
     let at : ℕ = contentsSize i in
     record { degree = byteAt s at; top = byteAt s (at + 1); rows = numberAt 2 s (at + 2); offset = numberAt 4 s (at + 4) }
@@ -67,7 +41,6 @@ bodySize e = e .rows * rowSize (e .top)
 
 -- The row at a place: p's low part, q and σ are below 2^m and each t is at most m.
 unfoldable pub rowForm : ℕ → ℕ → List ℕ → ℕ → Bool
-unfolding numberAt every
 rowForm m top s at =
     ltb (numberAt 2 s at) (2 ^ m)
     && (ltb (numberAt 2 s (at + 2)) (2 ^ m)
@@ -75,7 +48,6 @@ rowForm m top s at =
 
 -- The entry's degree and T are lawful, its degree is above the last one, its body lies at `at` within the file, and each row is of the form.
 unfoldable pub entryForm : List ℕ → Entry → ℕ → ℕ → Bool
-unfolding every rowForm
 entryForm s e last at =
     lawfulDegree (e .degree)
     && (ltb last (e .degree)
@@ -85,33 +57,29 @@ entryForm s e last at =
 
 -- The k entries from entry i on, behind the degree `last`: each body directly behind the one before, from `at`, and the last ends the file.
 unfoldable pub entriesForm : List ℕ → ℕ → ℕ → ℕ → ℕ → Bool
-unfolding entryAt entryForm
 entriesForm s zero i last at = eqb at (length s)
 entriesForm s (suc k) i last at =
     entryForm s (entryAt s i) last at && entriesForm s k (suc i) (entryAt s i .degree) (at + bodySize (entryAt s i))
 
+-- There are at most as many entries as lawful degrees.
 unfoldable pub catalogueForm : List ℕ → Bool
-unfolding entriesForm
 catalogueForm s =
     leb 1 (length s)
-    && (leb (byteAt s 0) mostEntries
+    && (leb (byteAt s 0) (suc largestDegree - leastDegree)
     && (leb (contentsSize (byteAt s 0)) (length s) && entriesForm s (byteAt s 0) 0 0 (contentsSize (byteAt s 0))))
 
 -- ---- open and look up
 
 -- Opening: 9; else the number of entries.
 unfoldable pub opening : List ℕ → Opening
-unfolding unless catalogueForm
 opening s = unless (situation (not (catalogueForm s)) IllFormedCatalogue ∷ []) Closed (Entries (byteAt s 0))
 
 -- The place of the degree among the entries; their number where it is missing.
 unfoldable pub entryOf : List ℕ → ℕ → ℕ
-unfolding first entryAt
 entryOf s m = first (byteAt s 0) 0 (λ (i : ℕ). eqb (entryAt s i .degree) m)
 
 -- A lookup: 1, 9, 10.
 unfoldable pub looking : List ℕ → ℕ → List Situation
-unfolding catalogueForm entryOf
 looking s m =
     situation (not (lawfulDegree m)) WrongDegree
     ∷ situation (not (catalogueForm s)) IllFormedCatalogue
@@ -120,18 +88,15 @@ looking s m =
 
 -- T and the row count.
 unfoldable pub lookupNumbers : List ℕ → ℕ → Lookup
-unfolding unless looking entryAt entryOf
 lookupNumbers s m = unless (looking s m) NoBody (Body (entryAt s (entryOf s m) .top) (entryAt s (entryOf s m) .rows))
 
 -- The body, a part of the file; empty where the lookup is refused.
 unfoldable pub lookupPart : List ℕ → ℕ → List ℕ
-unfolding unless looking entryAt entryOf
 lookupPart s m =
     unless (looking s m) (λ (n : Refusal). []) (take (bodySize (entryAt s (entryOf s m))) (drop (entryAt s (entryOf s m) .offset) s))
 
 -- The top dimension of a reader that is opened with a degree, over the part that a lookup gives; 0 where the lookup is refused.
 unfoldable pub readerTop : List ℕ → ℕ → ℕ
-unfolding unless looking entryAt entryOf
 readerTop s m = unless (looking s m) (λ (n : Refusal). 0) (entryAt s (entryOf s m) .top)
 
 -- ---- read row by row
@@ -146,55 +111,14 @@ abbrev pub tAt : ℕ → List ℕ → ℕ → ℕ → ℕ
 tAt top body place s = cond (leb s top) (byteAt body (place + 3 + s)) 0
 
 unfoldable pub rowAt : ℕ → ℕ → List ℕ → ℕ → Row
-unfolding numberAt
-rowAt m top body place = record {
-  p = 2 ^ m + numberAt 2 body place;
-  q = numberAt 2 body (place + 2);
-  step = numberAt 2 body (place + 4);
-  t3 = tAt top body place 3;
-  t4 = tAt top body place 4;
-  t5 = tAt top body place 5;
-  t6 = tAt top body place 6;
-  t7 = tAt top body place 7;
-  t8 = tAt top body place 8;
-}
+rowAt m top body place =
+    let t : ℕ → ℕ = tAt top body place in
+    record { p = 2 ^ m + numberAt 2 body place; q = numberAt 2 body (place + 2); step = numberAt 2 body (place + 4); t3 = t 3; t4 = t 4; t5 = t 5; t6 = t 6; t7 = t 7; t8 = t 8 }
 
 -- The next row, p with its leading term, or the end.
 unfoldable pub nextRow : ℕ → ℕ → List ℕ → ℕ → NextRow
-unfolding atRow rowAt
 nextRow m top body place = cond (atRow m top body place) (Found (rowAt m top body place)) End
 
 -- The place behind the next row; at the end it stays.
 unfoldable pub nextPlace : ℕ → ℕ → List ℕ → ℕ → ℕ
-unfolding atRow
 nextPlace m top body place = cond (atRow m top body place) (place + rowSize top) place
-
--- ---- the bytes of a catalogue
-
--- The ranked rows, or any others, of a degree.
-pub record Listed : Type 0 where
-  pub degree : ℕ
-  pub top : ℕ
-  pub rows : List (List ℕ)
-
-unfoldable pub rowBytes : ℕ → List ℕ → List ℕ
-unfolding bytesOf
-rowBytes m r = bytesOf 2 (getD r 0 0 - 2 ^ m) ++ bytesOf 2 (getD r 1 0) ++ bytesOf 2 (getD r 2 0) ++ drop 3 r
-
-unfoldable pub bodyBytes : Listed → List ℕ
-unfolding rowBytes
-bodyBytes l = join (map (rowBytes (l .degree)) (l .rows))
-
-unfoldable pub entryBytes : Listed → ℕ → List ℕ
-unfolding bytesOf
-entryBytes l offset = l .degree ∷ l .top ∷ bytesOf 2 (length (l .rows)) ++ bytesOf 4 offset
-
--- The entries, the first body lying at `at`.
-unfoldable pub contentsBytes : List Listed → ℕ → List ℕ
-unfolding entryBytes bodyBytes
-contentsBytes [] at = []
-contentsBytes (l ∷ ls) at = entryBytes l at ++ contentsBytes ls (at + length (bodyBytes l))
-
-unfoldable pub catalogueBytes : List Listed → List ℕ
-unfolding contentsBytes bodyBytes
-catalogueBytes ls = length ls ∷ contentsBytes ls (contentsSize (length ls)) ++ join (map bodyBytes ls)

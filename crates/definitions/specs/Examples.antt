@@ -1,14 +1,16 @@
 -- The starred examples of document 01: one table and one theorem, computed. Assumes nothing.
+use Rattle.definitions.specs.Base.{Bool, true, false, _&&_, eqb, List, [], _∷_, _++_, map, ℕ, replicate, PageRequest, Start}
 use mathlib.Core.Path.{_≡_, refl, ap₂}
-use mathlib.Core.Bool.{Bool, true, false, _&&_}
-use lib.Dec.{T, eqb, eqb→eq}
-use mathlib.Core.List.{List, [], _∷_, _++_, map}
-use Prim.Native.Nat.{ℕ}
-use lib.ListN.{replicate}
-use Rattle.definitions.specs.Answers.{judgementValues, uniformityValues, pageValues}
-use Rattle.definitions.specs.Calls.{judgement, uniformity, pageAnswer, pageSlice, pointsSlice}
-use Rattle.definitions.specs.declared.PageRequest.{PageRequest}
-use Rattle.definitions.specs.declared.Position.the-variants.{Start}
+use lib.Dec.{T, eqb→eq}
+use Rattle.definitions.specs.Answers.{judgementValues, uniformityValues, pageValues, unless}
+use Rattle.definitions.specs.Calls.{judgement, uniformity, pageAnswer, pageSlice, pointsSlice, pairSituations, judging, measuring, positionSituations, paging, pageRows, furtherRow, pointing}
+use Rattle.definitions.specs.Number.{first, every, count, numbers, keep, all, gcdWithin, gcd}
+use Rattle.definitions.specs.Polynomial.{_⊕_, degreeWithin, degree, byDigitsWithin, byDigits, prod, power, clear, bringDown, divide, quot, rem}
+use Rattle.definitions.specs.Generator.{wellFormed, order, primitive, found, expansionWithin, expansion, linearQuotients, step, coprimeStep, accepted}
+use Rattle.definitions.specs.Points.{leading, state, word, words, coordinate}
+use Rattle.definitions.specs.Net.{everyShare, everyBox, inBox, isNet, tValue}
+use Rattle.definitions.specs.Pages.{before, above, insert, insertAll, sort, rest, page, more, laid}
+use Rattle.definitions.specs.Ranking.{tValues, row, rowKey, allPairs, acceptedPairs, ranked, placeOf}
 
 -- What the definitions give, and what document 01 prints.
 pub record Example : Type 0 where
@@ -85,8 +87,13 @@ agrees-equal (e ∷ l) t =
     let h = both (same (e .defined) (e .printed)) (agrees l) t in
     ap₂ _∷_ (same-equal (e .defined) (e .printed) (h .0)) (agrees-equal l (h .1))
 
+-- To unfold this is to unfold all that the first four calls are defined by, so that they compute.
+unfoldable pub calls : ℕ
+unfolding first every count numbers keep all gcdWithin gcd _⊕_ degreeWithin degree byDigitsWithin byDigits prod power clear bringDown divide quot rem wellFormed order primitive found expansionWithin expansion linearQuotients step coprimeStep accepted leading state word words coordinate everyShare everyBox inBox isNet tValue before above insert insertAll sort rest page more laid tValues row rowKey allPairs acceptedPairs ranked placeOf unless pairSituations judging judgement measuring uniformity positionSituations paging pageRows furtherRow pageAnswer pageSlice pointing pointsSlice
+calls = 0
+
 starred-test : T (agrees table)
-unfolding table agrees same
+unfolding table agrees same judges measures lists begins calls
 starred-test = tt
 
 pub starred-examples : map (λ (e : Example). e .defined) table ≡ map (λ (e : Example). e .printed) table

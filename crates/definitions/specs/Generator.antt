@@ -1,10 +1,7 @@
 -- Generators: what makes a pair (p, q) of degree m well-formed, primitive and accepted; partial quotients, the tree of pairs, the step.
 -- Assumes nothing.
-use mathlib.Core.Bool.{Bool, true, false, _&&_}
-use mathlib.Core.List.{List, [], _∷_, _++_}
-use Prim.Native.Nat.{ℕ, zero, suc, _-_, _^_}
-use lib.Dec.{eqb, leb, ltb}
-use Rattle.definitions.specs.Number.{first, gcd}
+use Rattle.definitions.specs.Base.{Bool, _&&_, List, [], _∷_, _++_, ℕ, zero, suc, _-_, _^_, eqb, leb, ltb}
+use Rattle.definitions.specs.Number.{first, all, gcd}
 use Rattle.definitions.specs.Polynomial.{_⊕_, degree, prod, quot, rem}
 
 abbrev pub leastDegree : ℕ
@@ -26,12 +23,10 @@ period m = 2 ^ m - 1
 
 -- The smallest e ≥ 1 with x^e ≡ 1 (mod p), where it is at most 2^m - 1; else 2^m.
 unfoldable pub order : ℕ → ℕ → ℕ
-unfolding first rem
 order m p = first (period m) 1 (λ (e : ℕ). eqb (rem (2 ^ e) p) 1)
 
 -- Primitive: the smallest e ≥ 1 with x^e ≡ 1 (mod p) is 2^m - 1.
 unfoldable pub primitive : ℕ → ℕ → Bool
-unfolding order
 primitive m p = eqb (order m p) (period m)
 
 -- The partial quotients A1, A2, .. of q/p = [0; A1, A2, ..], and the common factor of p and q.
@@ -44,37 +39,30 @@ found a e = record { quotients = a ∷ e .quotients; common = e .common }
 
 -- Euclid's algorithm: p = A1 q + r1, q = A2 r1 + r2, .. until the remainder is 0, in at most n steps. Remainders fall, so q steps are enough.
 unfoldable pub expansionWithin : ℕ → ℕ → ℕ → Expansion
-unfolding found quot rem
 expansionWithin zero p q = record { quotients = []; common = p }
 expansionWithin (suc n) p zero = record { quotients = []; common = p }
 expansionWithin (suc n) p (suc q) = found (quot p (suc q)) (expansionWithin n (suc q) (rem p (suc q)))
 
 unfoldable pub expansion : ℕ → ℕ → Expansion
-unfolding expansionWithin
 expansion p q = expansionWithin q p q
 
-unfoldable pub allLinear : List ℕ → Bool
-unfolding degree
-allLinear [] = true
-allLinear (a ∷ l) = eqb (degree a) 1 && allLinear l
+-- Of degree one.
+abbrev pub linear : ℕ → Bool
+linear a = eqb (degree a) 1
 
 -- Quotients: every partial quotient of q/p has degree one, and p and q have no common factor.
 unfoldable pub linearQuotients : ℕ → ℕ → Bool
-unfolding allLinear expansion
-linearQuotients p q = allLinear (expansion p q .quotients) && eqb (expansion p q .common) 1
+linearQuotients p q = all linear (expansion p q .quotients) && eqb (expansion p q .common) 1
 
 -- Step: the σ with x^σ ≡ q (mod p) and 0 < σ < 2^m - 1, the first power of x that equals q; 2^m - 1 where there is none.
 unfoldable pub step : ℕ → ℕ → ℕ → ℕ
-unfolding first rem
 step m p q = first (period m - 1) 1 (λ (e : ℕ). eqb (rem (2 ^ e) p) q)
 
 unfoldable pub coprimeStep : ℕ → ℕ → ℕ → Bool
-unfolding gcd step
 coprimeStep m p q = eqb (gcd (step m p q) (period m)) 1
 
 -- Accepted: p is primitive, every partial quotient of q/p has degree one, and the step is coprime to 2^m - 1.
 unfoldable pub accepted : ℕ → ℕ → ℕ → Bool
-unfolding primitive linearQuotients coprimeStep
 accepted m p q = primitive m p && (linearQuotients p q && coprimeStep m p q)
 
 pub record Pair : Type 0 where
@@ -83,16 +71,13 @@ pub record Pair : Type 0 where
 
 -- One level down the tree: from (F_(k-1), F_(k-2)) to (F_k, F_(k-1)) by F_k = A F_(k-1) + F_(k-2).
 unfoldable pub child : ℕ → Pair → Pair
-unfolding prod _⊕_
 child a s = record { p = prod a (s .p) ⊕ s .q; q = s .p }
 
 -- The pairs k levels below s, each quotient being x or x + 1.
 unfoldable pub pairsBelow : ℕ → Pair → List Pair
-unfolding child
 pairsBelow zero s = s ∷ []
 pairsBelow (suc k) s = pairsBelow k (child 2 s) ++ pairsBelow k (child 3 s)
 
 -- The tree's 2^m pairs (F_m, F_(m-1)), from F_0 = 1 and F_(-1) = 0.
 unfoldable pub tree : ℕ → List Pair
-unfolding pairsBelow
 tree m = pairsBelow m (record { p = 1; q = 0 })

@@ -1,26 +1,17 @@
 -- Laws that keep the definitions honest: what a reader would check first. By the definitions' own cases. Assumes nothing.
-use mathlib.Core.Path.{_≡_, refl, sym, ap, _∙_}
-use mathlib.Core.Bool.{Bool, true, false, _&&_, and-eq-true-iff}
-use mathlib.Core.List.{List, [], _∷_}
-use Prim.Native.Nat.{ℕ, zero, suc, _+_, _≤_, _<_}
-use native.Mathlib.Nat.{le-refl}
+use Rattle.definitions.specs.Base.{Bool, true, false, List, [], _∷_, ℕ, zero, suc, _+_, eqb, length, Refusal, PageRequest, Page, NoPage, NotWritten}
+use mathlib.Core.Path.{_≡_, refl}
+use mathlib.Core.Bool.{and-eq-true-iff}
+use Prim.Native.Nat.{_≤_, _<_}
 use native.Mathlib.Omega.{arith}
-use lib.Dec.{eqb, ltb}
-use lib.ListN.{length, take}
 use lib.Seq.{take-all, length-take-le}
 use borrow.Author.Tests.{ltb-true, ltb-false, eqb-true}
-use Rattle.definitions.specs.Number.{first}
-use Rattle.definitions.specs.Generator.{expansion, allLinear, linearQuotients}
+use Rattle.definitions.specs.Number.{first, all}
+use Rattle.definitions.specs.Generator.{expansion, linear, linearQuotients}
 use Rattle.definitions.specs.Net.{isNet, tValue}
 use Rattle.definitions.specs.Pages.{Place, rest, page, more}
 use Rattle.definitions.specs.Answers.{Situation, unless}
 use Rattle.definitions.specs.Calls.{paging, pageAnswer, pageSlice, pageRows, furtherRow, pointing, pointsAnswer, pointsSlice}
-use Rattle.definitions.specs.declared.Refusal.{Refusal}
-use Rattle.definitions.specs.declared.PageRequest.{PageRequest}
-use Rattle.definitions.specs.declared.PageAnswer.{PageAnswer}
-use Rattle.definitions.specs.declared.PageAnswer.the-variants.{Page, NoPage}
-use Rattle.definitions.specs.declared.PointsAnswer.{PointsAnswer}
-use Rattle.definitions.specs.declared.PointsAnswer.the-variants.{Written, NotWritten}
 
 -- What holds of two answers to one list of situations, refused alike or both given.
 pub unless-both : {A B : Type 0} (P : A → B → Type 0) (l : List Situation) (refuse : Refusal → A) (value : A) (refuse′ : Refusal → B) (value′ : B)
@@ -63,7 +54,7 @@ more-leaves-out key at k l e =
 -- Where the quotients are linear there is no common factor.
 pub linear-no-common : (p q : ℕ) → linearQuotients p q ≡ true → expansion p q .common ≡ 1
 unfolding linearQuotients
-linear-no-common p q e = eqb-true (expansion p q .common) 1 (and-eq-true-iff (allLinear (expansion p q .quotients)) (eqb (expansion p q .common) 1) .0 e .1)
+linear-no-common p q e = eqb-true (expansion p q .common) 1 (and-eq-true-iff (all linear (expansion p q .quotients)) (eqb (expansion p q .common) 1) .0 e .1)
 
 first-at-most : (n a : ℕ) (test : ℕ → Bool) → first n a test ≤ a + n
 unfolding first

@@ -1,18 +1,9 @@
 -- The listing program: the line that it reads and the text that it prints, as bytes. Assumes nothing.
-use mathlib.Core.Bool.{Bool, true, false, cond, _&&_}
-use mathlib.Core.List.{List, [], _∷_, _++_, map}
-use Prim.Native.Nat.{ℕ, zero, suc, _+_, _-_, _*_, _/_, _%_}
-use lib.Dec.{eqb, leb, ltb}
-use lib.ListN.{length, take, drop, replicate}
-use Rattle.definitions.specs.Number.{join}
+use Rattle.definitions.specs.Base.{String, len, charAt, code, Bool, true, false, cond, _&&_, List, [], _∷_, _++_, map, ℕ, zero, suc, _+_, _-_, _*_, _/_, _%_, eqb, leb, ltb, length, take, drop, replicate, Refusal, PageRequest, Start, Line, Asked, Unreadable}
+use Rattle.definitions.specs.Number.{numbers, all, join}
 use Rattle.definitions.specs.Answers.{refusalNumber, unless}
 use Rattle.definitions.specs.Ranking.{rowWidth, ranked}
 use Rattle.definitions.specs.Calls.{paging}
-use Rattle.definitions.specs.declared.Refusal.{Refusal}
-use Rattle.definitions.specs.declared.PageRequest.{PageRequest}
-use Rattle.definitions.specs.declared.Position.the-variants.{Start}
-use Rattle.definitions.specs.declared.Line.{Line}
-use Rattle.definitions.specs.declared.Line.the-variants.{Asked, Unreadable}
 
 -- ---- the line
 
@@ -31,9 +22,6 @@ defaultSize = 50
 abbrev pub largestSize : ℕ
 largestSize = 1000
 
-abbrev pub longestNumber : ℕ
-longestNumber = 9
-
 -- The line ends at a newline or at the end of the input; what follows is not read.
 unfoldable pub lineOf : List ℕ → List ℕ
 lineOf [] = []
@@ -49,19 +37,9 @@ unfoldable pub wordsOf : List ℕ → List (List ℕ)
 wordsOf [] = [] ∷ []
 wordsOf (b ∷ s) = elim (eqb b space) [ true ↦ [] ∷ wordsOf s | false ↦ extend b (wordsOf s) ]
 
-unfoldable pub allDigits : List ℕ → Bool
-allDigits [] = true
-allDigits (b ∷ w) = (leb 48 b && leb b 57) && allDigits w
-
--- A word is a number where it has 1 to 9 bytes, each a decimal digit.
+-- A word is a number where it has 1 to 9 bytes, each a decimal digit; 48 is the digit 0.
 unfoldable pub isNumber : List ℕ → Bool
-unfolding allDigits
-isNumber w = leb 1 (length w) && (leb (length w) longestNumber && allDigits w)
-
-unfoldable pub areNumbers : List (List ℕ) → Bool
-unfolding isNumber
-areNumbers [] = true
-areNumbers (w ∷ ws) = isNumber w && areNumbers ws
+isNumber w = leb 1 (length w) && (leb (length w) 9 && all (λ (b : ℕ). leb 48 b && leb b 57) w)
 
 -- The number with the digits w behind those of n.
 unfoldable pub decimalFrom : ℕ → List ℕ → ℕ
@@ -77,44 +55,15 @@ asked (m ∷ top ∷ size ∷ []) = Asked m top size
 asked (m ∷ top ∷ size ∷ n ∷ l) = Unreadable
 
 unfoldable pub readLine : List ℕ → Line
-unfolding lineOf wordsOf areNumbers decimalFrom asked
 readLine s =
     let ws : List (List ℕ) = wordsOf (lineOf s) in
-    elim (areNumbers ws) [ true ↦ asked (map (decimalFrom 0) ws) | false ↦ Unreadable ]
+    elim (all isNumber ws) [ true ↦ asked (map (decimalFrom 0) ws) | false ↦ Unreadable ]
 
 -- ---- the text
 
--- "degree "
-abbrev pub degreeWord : List ℕ
-degreeWord = 100 ∷ 101 ∷ 103 ∷ 114 ∷ 101 ∷ 101 ∷ 32 ∷ []
-
--- " top "
-abbrev pub topWord : List ℕ
-topWord = 32 ∷ 116 ∷ 111 ∷ 112 ∷ 32 ∷ []
-
--- "page "
-abbrev pub pageWord : List ℕ
-pageWord = 112 ∷ 97 ∷ 103 ∷ 101 ∷ 32 ∷ []
-
--- " rows "
-abbrev pub rowsWord : List ℕ
-rowsWord = 32 ∷ 114 ∷ 111 ∷ 119 ∷ 115 ∷ 32 ∷ []
-
--- " more"
-abbrev pub moreWord : List ℕ
-moreWord = 32 ∷ 109 ∷ 111 ∷ 114 ∷ 101 ∷ []
-
--- " end"
-abbrev pub endWord : List ℕ
-endWord = 32 ∷ 101 ∷ 110 ∷ 100 ∷ []
-
--- "total "
-abbrev pub totalWord : List ℕ
-totalWord = 116 ∷ 111 ∷ 116 ∷ 97 ∷ 108 ∷ 32 ∷ []
-
--- "refused "
-abbrev pub refusedWord : List ℕ
-refusedWord = 114 ∷ 101 ∷ 102 ∷ 117 ∷ 115 ∷ 101 ∷ 100 ∷ 32 ∷ []
+-- The bytes of a text of plain letters.
+abbrev pub letters : String → List ℕ
+letters text = map (λ (i : ℕ). code (charAt text i)) (numbers 0 (len text))
 
 -- The decimal digits of n, at most as many as `within`; n + 1 are enough.
 unfoldable pub decimalWithin : ℕ → ℕ → List ℕ
@@ -122,36 +71,29 @@ decimalWithin zero n = []
 decimalWithin (suc within) n = elim (ltb n 10) [ true ↦ (48 + n) ∷ [] | false ↦ decimalWithin within (n / 10) ++ ((48 + n % 10) ∷ []) ]
 
 unfoldable pub decimal : ℕ → List ℕ
-unfolding decimalWithin
 decimal n = decimalWithin (suc n) n
 
 unfoldable pub headerText : ℕ → ℕ → List ℕ
-unfolding decimal
-headerText m top = degreeWord ++ decimal m ++ topWord ++ decimal top ++ newline ∷ []
+headerText m top = letters "degree " ++ decimal m ++ letters " top " ++ decimal top ++ newline ∷ []
 
 -- The numbers of a row, single spaces between.
 unfoldable pub rowText : List ℕ → List ℕ
-unfolding decimal
 rowText [] = newline ∷ []
 rowText (n ∷ []) = decimal n ++ newline ∷ []
 rowText (n ∷ k ∷ r) = decimal n ++ space ∷ rowText (k ∷ r)
 
 -- A page's number, its rows, and whether more follow.
 unfoldable pub pageText : ℕ → ℕ → Bool → List ℕ
-unfolding decimal
-pageText number rows further = pageWord ++ decimal number ++ rowsWord ++ decimal rows ++ cond further moreWord endWord ++ newline ∷ []
+pageText number rows further = letters "page " ++ decimal number ++ letters " rows " ++ decimal rows ++ cond further (letters " more") (letters " end") ++ newline ∷ []
 
 unfoldable pub totalText : ℕ → List ℕ
-unfolding decimal
-totalText rows = totalWord ++ decimal rows ++ newline ∷ []
+totalText rows = letters "total " ++ decimal rows ++ newline ∷ []
 
 unfoldable pub refusedText : ℕ → List ℕ
-unfolding decimal
-refusedText number = refusedWord ++ decimal number ++ newline ∷ []
+refusedText number = letters "refused " ++ decimal number ++ newline ∷ []
 
 -- The pages of `size` rows from page `number` on, at most `within` of them; one more than there are rows is enough.
 unfoldable pub pagesText : ℕ → ℕ → ℕ → List (List ℕ) → List ℕ
-unfolding rowText pageText
 pagesText zero number size rows = []
 pagesText (suc within) number size rows =
     join (map rowText (take size rows))
@@ -161,14 +103,12 @@ pagesText (suc within) number size rows =
     ]
 
 unfoldable pub listText : ℕ → ℕ → ℕ → List ℕ
-unfolding headerText pagesText totalText ranked
 listText m top size =
     let rows : List (List ℕ) = ranked m top in
     headerText m top ++ pagesText (suc (length rows)) 1 size rows ++ totalText (length rows)
 
 -- The printed text: an unreadable line or a page size above 1000 first, then the refusals of a page that holds `size` rows, then the list.
 unfoldable pub answerText : Line → List ℕ
-unfolding refusedText unless paging listText
 answerText Unreadable = refusedText 0
 answerText (Asked m top size) =
     let r : PageRequest = record { degree = m; top = top; position = Start } in
@@ -178,5 +118,4 @@ answerText (Asked m top size) =
     ]
 
 unfoldable pub listing : List ℕ → List ℕ
-unfolding readLine answerText
 listing s = answerText (readLine s)

@@ -1,8 +1,6 @@
 -- Numbers and lists, as far as the definitions need them: the first number that passes a test, counting, greatest common divisors.
 -- Assumes nothing.
-use mathlib.Core.Bool.{Bool, true, false, _&&_}
-use mathlib.Core.List.{List, [], _∷_, _++_}
-use Prim.Native.Nat.{ℕ, zero, suc, _+_, _%_}
+use Rattle.definitions.specs.Base.{Bool, true, false, _&&_, List, [], _∷_, _++_, ℕ, zero, suc, _+_, _%_}
 
 -- The first number from a on that passes the test, of n tried; the number behind these where none does.
 unfoldable pub first : ℕ → ℕ → (ℕ → Bool) → ℕ
@@ -38,6 +36,11 @@ unfoldable pub keep : {X : Type 0} → (X → Bool) → List X → List X
 keep test [] = []
 keep test (x ∷ l) = putIf (test x) x (keep test l)
 
+-- Every element of a list passes the test.
+unfoldable pub all : {X : Type 0} → (X → Bool) → List X → Bool
+all test [] = true
+all test (x ∷ l) = test x && all test l
+
 -- Lists joined.
 abbrev pub join : {X : Type 0} → List (List X) → List X
 join [] = []
@@ -50,5 +53,4 @@ gcdWithin (suc n) a zero = a
 gcdWithin (suc n) a (suc b) = gcdWithin n (suc b) (a % suc b)
 
 unfoldable pub gcd : ℕ → ℕ → ℕ
-unfolding gcdWithin
 gcd a b = gcdWithin (suc b) a b

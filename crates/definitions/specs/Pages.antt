@@ -1,9 +1,5 @@
 -- Lists ranked by a key, and their pages; nothing here speaks of generators. Assumes nothing.
-use mathlib.Core.Bool.{Bool, true, false, cond, _&&_, _||_}
-use mathlib.Core.List.{List, [], _∷_, _++_}
-use Prim.Native.Nat.{ℕ, _*_}
-use lib.Dec.{eqb, ltb}
-use lib.ListN.{length, take, drop}
+use Rattle.definitions.specs.Base.{Bool, true, false, cond, _&&_, _||_, List, [], _∷_, _++_, ℕ, _*_, eqb, ltb, length, take, drop}
 use Rattle.definitions.specs.Number.{keep, join}
 
 -- Key a stands before key b: at the first place where they differ a has the smaller number, or a ends there.
@@ -20,41 +16,34 @@ pub data Place : Type 0 where
 
 -- A key stands above a place.
 unfoldable pub above : Place → List ℕ → Bool
-unfolding before
 above start k = true
 above (after j) k = before j k
 
 module _ {X : Type 0} (key : X → List ℕ) where
   -- r put in before the first element that it stands before.
   unfoldable pub insert : X → List X → List X
-  unfolding before
   insert r [] = r ∷ []
   insert r (x ∷ l) = cond (before (key r) (key x)) (r ∷ x ∷ l) (x ∷ insert r l)
 
   -- The elements of rs put into acc, one after the other.
   unfoldable pub insertAll : List X → List X → List X
-  unfolding insert
   insertAll acc [] = acc
   insertAll acc (r ∷ rs) = insertAll (insert r acc) rs
 
   -- A list in ascending order of its keys.
   unfoldable pub sort : List X → List X
-  unfolding insertAll
   sort rs = insertAll [] rs
 
   -- The elements of l above a place.
   unfoldable pub rest : Place → List X → List X
-  unfolding keep above
   rest at l = keep (λ (x : X). above at (key x)) l
 
   -- A page of at most k elements.
   unfoldable pub page : Place → ℕ → List X → List X
-  unfolding rest
   page at k l = take k (rest at l)
 
   -- Whether an element above the place is left over behind the page.
   unfoldable pub more : Place → ℕ → List X → Bool
-  unfolding rest
   more at k l = ltb k (length (rest at l))
 
 -- Rows of width w written over the front of s; every number behind them stays.

@@ -54,11 +54,11 @@ expansionWithin-any (suc n) (suc k) p (suc q) h l =
     ap (found (quot p (suc q))) (expansionWithin-any n k (suc q) (rem p (suc q)) (omega arith) (omega arith))
 
 pub expansion-zero : (p : ℕ) → expansion p 0 ≡ record { quotients = []; common = p }
-unfolding expansion
+unfolding expansion expansionWithin
 expansion-zero p = refl
 
 pub expansion-more : (p q : ℕ) → 0 < q → expansion p q ≡ found (quot p q) (expansion q (rem p q))
-unfolding expansion
+unfolding expansion expansionWithin found
 expansion-more p zero h = absurd (omega arith)
 expansion-more p (suc q) h =
     let r = rem-less p (suc q) h in

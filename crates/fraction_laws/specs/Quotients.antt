@@ -12,7 +12,8 @@ use lib.Dec.{eqb}
 use lib.ListN.{length}
 use borrow.Author.Tests.{eqb-true}
 use Rattle.definitions.specs.Polynomial.{degree, quot, rem}
-use Rattle.definitions.specs.Generator.{Expansion, found, expansion, allLinear, linearQuotients, Pair}
+use Rattle.definitions.specs.Number.{all}
+use Rattle.definitions.specs.Generator.{Expansion, found, expansion, linear, linearQuotients, Pair, expansionWithin}
 use Rattle.polynomial_laws.specs.Degree.{HasDegree, degree-is, degree-unique, degree-zero, degree-one}
 use Rattle.fraction_laws.specs.Expansion.{expansion-more, totalDegree, degrees-add, quotient-drop}
 use Rattle.fraction_laws.specs.WellFormed.{Proper, proper-degree, proper-positive}
@@ -47,26 +48,26 @@ has-degree-one : (a : ℕ) → degree a ≡ 1 → HasDegree a 1
 has-degree-one zero e = absurd (omega (arith, degree-zero))
 has-degree-one (suc a) e = subst (HasDegree (suc a)) e (degree-is (suc a) (zero-lt-suc a))
 
-pub linear-when : (l : List ℕ) → allLinear l ≡ true → Linear l
-unfolding allLinear
+pub linear-when : (l : List ℕ) → all linear l ≡ true → Linear l
+unfolding all
 linear-when [] e = none
 linear-when (a ∷ l) e =
-    let both = and-eq-true-iff (eqb (degree a) 1) (allLinear l) .0 e in
+    let both = and-eq-true-iff (eqb (degree a) 1) (all linear l) .0 e in
     one (has-degree-one a (eqb-true (degree a) 1 (both .0))) (linear-when l (both .1))
 
-pub linear-test : {l : List ℕ} → Linear l → allLinear l ≡ true
-unfolding allLinear
+pub linear-test : {l : List ℕ} → Linear l → all linear l ≡ true
+unfolding all
 linear-test none = refl
 linear-test (one {a} h r) = rw (degree-unique a 1 h) (linear-test r)
 
-pub linearQuotients-def : (p q : ℕ) → linearQuotients p q ≡ allLinear (expansion p q .quotients) && eqb (expansion p q .common) 1
+pub linearQuotients-def : (p q : ℕ) → linearQuotients p q ≡ all linear (expansion p q .quotients) && eqb (expansion p q .common) 1
 unfolding linearQuotients
 linearQuotients-def p q = refl
 
 pub linearQuotients-is : (p q : ℕ) → (linearQuotients p q ≡ true) ↔ LinearQuotients p q
 linearQuotients-is p q = (
   λ e.
-      let both = and-eq-true-iff (allLinear (expansion p q .quotients)) (eqb (expansion p q .common) 1) .0 (rw linearQuotients-def at e) in
+      let both = and-eq-true-iff (all linear (expansion p q .quotients)) (eqb (expansion p q .common) 1) .0 (rw linearQuotients-def at e) in
       record { linear = linear-when _ (both .0); coprime = eqb-true _ 1 (both .1) },
   λ h. rw (linearQuotients-def, linear-test (h .linear), h .coprime),
 )
@@ -89,13 +90,13 @@ quotients-count m s h t = omega (arith, linear-total (t .linear), quotients-tota
 
 -- ---- one quotient at a time
 pub linearQuotients-zero : (p : ℕ) → linearQuotients p 0 ≡ eqb p 1
-unfolding linearQuotients
+unfolding linearQuotients all expansion expansionWithin
 linearQuotients-zero p = refl
 
 found-linear : (a : ℕ) (e : Expansion)
-    → allLinear (found a e .quotients) && eqb (found a e .common) 1 ≡ eqb (degree a) 1 && (allLinear (e .quotients) && eqb (e .common) 1)
-unfolding found allLinear
-found-linear a e = and-assoc (eqb (degree a) 1) (allLinear (e .quotients)) (eqb (e .common) 1)
+    → all linear (found a e .quotients) && eqb (found a e .common) 1 ≡ eqb (degree a) 1 && (all linear (e .quotients) && eqb (e .common) 1)
+unfolding found all
+found-linear a e = and-assoc (eqb (degree a) 1) (all linear (e .quotients)) (eqb (e .common) 1)
 
 pub linearQuotients-step : (p q : ℕ) → 0 < q → linearQuotients p q ≡ eqb (degree (quot p q)) 1 && linearQuotients q (rem p q)
 linearQuotients-step p q pos = simp (linearQuotients-def, expansion-more p q pos) (found-linear (quot p q) (expansion q (rem p q)))

@@ -11,7 +11,8 @@ use lib.Dec.{eqb}
 use lib.ListN.{length, take, drop, getD, drop-of-length-le}
 use lib.Seq.{slice, drop-cons, drop-at, take-add, length-take-le}
 use borrow.Author.Tests.{eq-eqb, ne-eqb}
-use Rattle.definitions.specs.Listing.{newline, lineOf, wordsOf, isNumber, areNumbers, decimalFrom, asked, readLine}
+use Rattle.definitions.specs.Number.{all}
+use Rattle.definitions.specs.Listing.{newline, lineOf, wordsOf, isNumber, decimalFrom, asked, readLine}
 use Rattle.definitions.specs.declared.Line.{Line}
 use Rattle.definitions.specs.declared.Line.the-variants.{Unreadable}
 use Rattle.listing.specs.declared.input.Word.{Word}
@@ -28,7 +29,7 @@ wordOf w = elim (isNumber w) [ true ↦ Number (decimalFrom 0 w) | false ↦ NoN
 
 -- What is asked with some numbers read and some words to come.
 unfoldable pub askedWith : List ℕ → List (List ℕ) → Line
-askedWith read ws = elim (areNumbers ws) [ true ↦ asked (read ++ map (decimalFrom 0) ws) | false ↦ Unreadable ]
+askedWith read ws = elim (all isNumber ws) [ true ↦ asked (read ++ map (decimalFrom 0) ws) | false ↦ Unreadable ]
 
 -- What is asked with some numbers read and the rest of the line to come.
 unfoldable pub askedFrom : List ℕ → List ℕ → Line

@@ -7,7 +7,7 @@ use Prim.Native.Nat.{ℕ, _+_, _≤_, _<_}
 use native.Mathlib.Omega.{arith}
 use lib.Dec.{leb}
 use lib.ListN.{length, set, length-append}
-use Rattle.definitions.specs.Listing.{decimal, newline, degreeWord, topWord, pageWord, rowsWord, moreWord, endWord, totalWord, refusedWord, headerText, pageText, totalText, refusedText}
+use Rattle.definitions.specs.Listing.{decimal, newline, headerText, pageText, totalText, refusedText, letters}
 use Rattle.listing.specs.Place.{over, over-byte, length-over, then, fits-true, fits-false}
 
 -- A word, a number and a newline.
@@ -87,18 +87,18 @@ module _ (word : List ℕ) (n : ℕ) (other : List ℕ) (k : ℕ) (ending : List
           rw (append-assoc (word ++ decimal n) other (decimal k)) (then at (word ++ decimal n ++ (other ++ decimal k)) ending out (omega arith) (both .0) (both .1) u v)
 
 -- Each line of the listing as such a line.
-pub header-line : (m top : ℕ) → headerText m top ≡ longLine degreeWord m topWord top (newline ∷ [])
+pub header-line : (m top : ℕ) → headerText m top ≡ longLine (letters "degree ") m (letters " top ") top (newline ∷ [])
 unfolding headerText
 header-line m top = refl
 
-pub page-line : (number rows : ℕ) (further : Bool) → pageText number rows further ≡ longLine pageWord number rowsWord rows (cond further moreWord endWord ++ newline ∷ [])
+pub page-line : (number rows : ℕ) (further : Bool) → pageText number rows further ≡ longLine (letters "page ") number (letters " rows ") rows (cond further (letters " more") (letters " end") ++ newline ∷ [])
 unfolding pageText
-page-line number rows further = append-assoc (pageWord ++ decimal number ++ rowsWord ++ decimal rows) (cond further moreWord endWord) (newline ∷ [])
+page-line number rows further = append-assoc (letters "page " ++ decimal number ++ letters " rows " ++ decimal rows) (cond further (letters " more") (letters " end")) (newline ∷ [])
 
-pub total-line : (rows : ℕ) → totalText rows ≡ shortLine totalWord rows
+pub total-line : (rows : ℕ) → totalText rows ≡ shortLine (letters "total ") rows
 unfolding totalText
 total-line rows = refl
 
-pub refused-line : (number : ℕ) → refusedText number ≡ shortLine refusedWord number
+pub refused-line : (number : ℕ) → refusedText number ≡ shortLine (letters "refused ") number
 unfolding refusedText
 refused-line number = refl

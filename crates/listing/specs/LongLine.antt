@@ -10,10 +10,11 @@ use lib.Dec.{eqb, leb}
 use lib.ListN.{length, take, length-take}
 use lib.Seq.{take-all}
 use borrow.Author.Tests.{leb-true, leb-false}
-use Rattle.definitions.specs.Listing.{space, newline, lineOf, wordsOf, isNumber, areNumbers, allDigits, asked, decimalFrom, readLine}
+use Rattle.definitions.specs.Number.{all}
+use Rattle.definitions.specs.Listing.{space, newline, lineOf, wordsOf, isNumber, asked, decimalFrom, readLine}
 use Rattle.definitions.specs.declared.Line.the-variants.{Unreadable}
 use Rattle.listing.specs.Line.{upTo, askedFrom, askedWith, read-line}
-use Rattle.listing.specs.Words.{otherWords, words-first}
+use Rattle.listing.specs.Words.{isDigit, otherWords, words-first}
 
 -- The words and a byte behind each.
 wordBytes : List (List ℕ) → ℕ
@@ -34,14 +35,14 @@ words-length (b ∷ s) = go (eqb b space) refl (words-length s)
 number-short : (w : List ℕ) → isNumber w ≡ true → length w ≤ 9
 unfolding isNumber
 number-short w e =
-    let rest = and-eq-true-iff (leb 1 (length w)) (leb (length w) 9 && allDigits w) .0 e .1 in
-    leb-true (length w) 9 (and-eq-true-iff (leb (length w) 9) (allDigits w) .0 rest .0)
+    let rest = and-eq-true-iff (leb 1 (length w)) (leb (length w) 9 && all isDigit w) .0 e .1 in
+    leb-true (length w) 9 (and-eq-true-iff (leb (length w) 9) (all isDigit w) .0 rest .0)
 
-numbers-short : (ws : List (List ℕ)) → areNumbers ws ≡ true → wordBytes ws ≤ 10 * length ws
-unfolding areNumbers wordBytes
+numbers-short : (ws : List (List ℕ)) → all isNumber ws ≡ true → wordBytes ws ≤ 10 * length ws
+unfolding all wordBytes
 numbers-short [] e = omega arith
 numbers-short (w ∷ ws) e =
-    let both = and-eq-true-iff (isNumber w) (areNumbers ws) .0 e in
+    let both = and-eq-true-iff (isNumber w) (all isNumber ws) .0 e in
     omega (arith, number-short w (both .0), numbers-short ws (both .1))
 
 -- What is asked with numbers that are too long together.
@@ -55,9 +56,9 @@ long-numbers (a ∷ b ∷ c ∷ d ∷ ws) h = refl
 
 long-words : (ws : List (List ℕ)) → 31 ≤ wordBytes ws → askedWith [] ws ≡ Unreadable
 unfolding askedWith
-long-words ws h = go (areNumbers ws) refl
+long-words ws h = go (all isNumber ws) refl
   where
-    go : (t : Bool) → areNumbers ws ≡ t → askedWith [] ws ≡ Unreadable
+    go : (t : Bool) → all isNumber ws ≡ t → askedWith [] ws ≡ Unreadable
     go true e = rw (e, askedWith) (long-numbers ws (omega (arith, numbers-short ws e)))
     go false e = rw (e, askedWith)
 

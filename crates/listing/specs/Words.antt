@@ -2,17 +2,18 @@
 -- and a word by its next byte.
 -- Assumes nothing.
 use mathlib.Core.Path.{_≡_, refl, sym, ap, _∙_}
-use mathlib.Core.Bool.{Bool, true, false}
+use mathlib.Core.Bool.{Bool, true, false, _&&_}
 use mathlib.Core.List.{List, [], _∷_, _++_, map, append-nil}
 use Prim.Native.Nat.{ℕ, suc, _+_, _-_, _*_, _^_, _≤_, _<_}
 use native.Mathlib.Nat.{pow-suc, pow-le-pow-right, lt-of-lt-of-le}
 use native.Mathlib.Numerals.{add-one}
 use native.Mathlib.Omega.{arith}
-use lib.Dec.{eqb}
+use lib.Dec.{eqb, leb}
 use lib.ListN.{length, drop, getD, length-drop}
 use lib.Seq.{append-snoc, slice, slice-cons, drop-drop}
 use borrow.Author.Tests.{le-leb, lt-leb}
-use Rattle.definitions.specs.Listing.{space, wordsOf, allDigits, isNumber, areNumbers, decimalFrom, asked}
+use Rattle.definitions.specs.Number.{all}
+use Rattle.definitions.specs.Listing.{space, wordsOf, isNumber, decimalFrom, asked}
 use Rattle.definitions.specs.declared.Line.{Line}
 use Rattle.definitions.specs.declared.Line.the-variants.{Unreadable}
 use Rattle.listing.specs.declared.input.Word.{Word}
@@ -71,23 +72,23 @@ word-none w e = go (isNumber w) refl
 
 -- What is asked, by the next word.
 with-number : (read w : List ℕ) (ws : List (List ℕ)) (v : ℕ) → wordOf w ≡ Number v → askedWith read (w ∷ ws) ≡ askedWith (read ++ v ∷ []) ws
-unfolding askedWith areNumbers
+unfolding askedWith all
 with-number read w ws v e =
     let numbers : read ++ map (decimalFrom 0) (w ∷ ws) ≡ (read ++ v ∷ []) ++ map (decimalFrom 0) ws =
     ap (λ (n : ℕ). read ++ n ∷ map (decimalFrom 0) ws) (word-number w v e .1) ∙ sym (append-snoc read v (map (decimalFrom 0) ws)) in
-    rw (askedWith, word-number w v e .0) (ap (λ (r : List ℕ). among (areNumbers ws) (asked r)) numbers)
+    rw (askedWith, word-number w v e .0) (ap (λ (r : List ℕ). among (all isNumber ws) (asked r)) numbers)
   where
     among : Bool → Line → Line
     among t x = elim t [ true ↦ x | false ↦ Unreadable ]
 
 module _ (read l : List ℕ) where
   pub asked-none : wordOf (upTo space l) ≡ NoNumber → askedFrom read l ≡ Unreadable
-  unfolding askedFrom askedWith areNumbers
+  unfolding askedFrom askedWith all
   asked-none e = rw (words-first l, askedWith, word-none (upTo space l) e)
 
   module _ {v : ℕ} (e : wordOf (upTo space l) ≡ Number v) where
     pub asked-last : length (upTo space l) ≡ length l → askedFrom read l ≡ asked (read ++ v ∷ [])
-    unfolding askedFrom askedWith areNumbers
+    unfolding askedFrom askedWith all
     asked-last h =
         rw (words-first l, words-last l h) (with-number read (upTo space l) [] v e ∙ ap asked (append-nil (read ++ v ∷ [])))
 
@@ -97,18 +98,22 @@ module _ (read l : List ℕ) where
 
 pub asked-full : (m top size : ℕ) (l : List ℕ) → askedFrom (m ∷ top ∷ size ∷ []) l ≡ Unreadable
 unfolding askedFrom askedWith asked
-asked-full m top size l = rw (words-first l) (go (areNumbers (upTo space l ∷ otherWords l)) refl)
+asked-full m top size l = rw (words-first l) (go (all isNumber (upTo space l ∷ otherWords l)) refl)
   where
-    go : (t : Bool) → areNumbers (upTo space l ∷ otherWords l) ≡ t → askedWith (m ∷ top ∷ size ∷ []) (upTo space l ∷ otherWords l) ≡ Unreadable
+    go : (t : Bool) → all isNumber (upTo space l ∷ otherWords l) ≡ t → askedWith (m ∷ top ∷ size ∷ []) (upTo space l ∷ otherWords l) ≡ Unreadable
     go true k = rw (k, askedWith)
     go false k = rw (k, askedWith)
 
+-- A decimal digit: 48 is 0 and 57 is 9.
+abbrev pub isDigit : ℕ → Bool
+isDigit b = leb 48 b && leb b 57
+
 -- The number that the digits w make behind those of n, if they are digits.
 unfoldable pub digitsFrom : ℕ → List ℕ → Word
-digitsFrom n w = elim (allDigits w) [ true ↦ Number (decimalFrom n w) | false ↦ NoNumber ]
+digitsFrom n w = elim (all isDigit w) [ true ↦ Number (decimalFrom n w) | false ↦ NoNumber ]
 
 pub digits-all : (n : ℕ) → digitsFrom n [] ≡ Number n
-unfolding digitsFrom allDigits decimalFrom
+unfolding digitsFrom all decimalFrom
 digits-all n = refl
 
 module _ (w : List ℕ) where
@@ -126,15 +131,15 @@ module _ (w : List ℕ) where
 
 module _ (n b : ℕ) (w : List ℕ) where
   pub digits-low : b < 48 → digitsFrom n (b ∷ w) ≡ NoNumber
-  unfolding digitsFrom allDigits
+  unfolding digitsFrom all
   digits-low h = rw (digitsFrom, lt-leb 48 b h)
 
   pub digits-high : 48 ≤ b → 57 < b → digitsFrom n (b ∷ w) ≡ NoNumber
-  unfolding digitsFrom allDigits
+  unfolding digitsFrom all
   digits-high k h = rw (digitsFrom, le-leb 48 b k, lt-leb b 57 h)
 
   pub digits-more : 48 ≤ b → b ≤ 57 → digitsFrom (n * 10 + (b - 48)) w ≡ digitsFrom n (b ∷ w)
-  unfolding digitsFrom allDigits decimalFrom
+  unfolding digitsFrom all decimalFrom
   digits-more k h = sym (rw (digitsFrom, le-leb 48 b k, le-leb b 57 h))
 
 -- Nine digits stay below 10^9.

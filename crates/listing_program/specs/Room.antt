@@ -10,7 +10,8 @@ use native.Mathlib.Omega.{arith}
 use lib.Dec.{ltb, eqb}
 use lib.ListN.{length, getD, length-append}
 use borrow.Author.Tests.{ltb-true, ltb-false}
-use Rattle.definitions.specs.Listing.{decimal, rowText, pageText, pageWord, rowsWord, moreWord, endWord, newline}
+use Rattle.definitions.specs.Number.{numbers}
+use Rattle.definitions.specs.Listing.{decimal, rowText, pageText, newline, letters}
 use Rattle.listing.specs.Decimal.{decimal-digit, decimal-length-more}
 use Rattle.listing.specs.Lines.{long-length, page-line}
 use Rattle.listing.specs.Place.{over, placed, behind, placed-fits, behind-fits, then, then-room, length-over}
@@ -39,13 +40,15 @@ pub row-room : (r : List ℕ) → ((i : ℕ) → getD r i 0 < 2 ^ 32) → length
 row-room [] h = omega (arith, row-none [] refl)
 row-room (n ∷ r) h = omega (arith, row-some (n ∷ r) (λ e. omega arith), row-bytes (n ∷ r) h)
 
-ending-short : (further : Bool) → length (cond further moreWord endWord ++ newline ∷ []) ≤ 6
+ending-short : (further : Bool) → length (cond further (letters " more") (letters " end") ++ newline ∷ []) ≤ 6
+unfolding numbers
 ending-short true = omega arith
 ending-short false = omega arith
 
 page-room : (number rows : ℕ) (further : Bool) → number < 2 ^ 32 → rows < 2 ^ 32 → length (pageText number rows further) ≤ 37
+unfolding numbers
 page-room number rows further h k =
-    let line = ap length (page-line number rows further) ∙ long-length pageWord number rowsWord rows (cond further moreWord endWord ++ newline ∷ []) in
+    let line = ap length (page-line number rows further) ∙ long-length (letters "page ") number (letters " rows ") rows (cond further (letters " more") (letters " end") ++ newline ∷ []) in
     omega (arith, ten-digits number h, ten-digits rows k, ending-short further)
 
 -- The line of a page, behind fewer rows than 32 bits count.

@@ -41,11 +41,11 @@ unfolding degree
 degree-def a = refl
 
 pub degree-zero : degree 0 ≡ 0
-unfolding degree
+unfolding degree degreeWithin
 degree-zero = refl
 
 pub degree-one : degree 1 ≡ 0
-unfolding degree
+unfolding degree degreeWithin
 degree-one = refl
 
 pub positive : {a m : ℕ} → HasDegree a m → 0 < a

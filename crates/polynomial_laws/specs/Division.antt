@@ -22,11 +22,11 @@ module _ {X : Type 0} (z : X) (g : ℕ → X → X) where
   byDigitsWithin-any (suc f) (suc k) (suc a) h l = ap (g (suc a % 2)) (byDigitsWithin-any f k (suc a / 2) (omega arith) (omega arith))
 
   pub byDigits-zero : byDigits z g 0 ≡ z
-  unfolding byDigits
+  unfolding byDigits byDigitsWithin
   byDigits-zero = refl
 
   byDigits-step : g 0 z ≡ z → (n : ℕ) → byDigits z g n ≡ g (n % 2) (byDigits z g (n / 2))
-  unfolding byDigits
+  unfolding byDigits byDigitsWithin
   byDigits-step e zero = sym e
   byDigits-step e (suc n) = ap (g (suc n % 2)) (byDigitsWithin-any n (suc n / 2) (suc n / 2) (omega arith) (omega arith))
 
@@ -120,11 +120,11 @@ unfolding quot rem bringDown
 quot-digit b a c h = ap (λ (d : Division). d .quotient) (divide-digit b a c h)
 
 pub rem-zero : (b : ℕ) → rem 0 b ≡ 0
-unfolding rem
+unfolding rem divide byDigits byDigitsWithin
 rem-zero b = refl
 
 pub quot-zero : (b : ℕ) → quot 0 b ≡ 0
-unfolding quot
+unfolding quot divide byDigits byDigitsWithin
 quot-zero b = refl
 
 -- ---- the laws, for b ≠ 0

@@ -6,7 +6,7 @@ use Prim.Native.Nat.{ℕ, zero, suc, _+_, _*_, _^_, _≤_, _<_}
 use native.Mathlib.Nat.{one-mul, mul-assoc, pow-succ', zero-add, suc-add, mul-zero, mul-suc, add-comm}
 use native.Mathlib.Omega.{arith}
 use lib.Pow.{pow-add, pow-mono}
-use Rattle.definitions.specs.Polynomial.{degree, byDigits, rem, prod, power}
+use Rattle.definitions.specs.Polynomial.{degree, byDigits, rem, prod, power, byDigitsWithin}
 use Rattle.polynomial_laws.specs.Sum.{digit-ind}
 use Rattle.polynomial_laws.specs.Degree.{degree-is, exponents}
 use Rattle.polynomial_laws.specs.Division.{timesX, byDigits-digit, rem-small, rem-double}
@@ -115,6 +115,7 @@ module _ (p : ℕ) (big : 2 ≤ p) where
       start = simp (one-prod, rem-one)
 
   pub powX-is : (e : ℕ) → rem (2 ^ e) p ≡ powX p e
+  unfolding byDigitsWithin
   powX-is = digit-ind (λ e. rem (2 ^ e) p ≡ powX p e) (rw rem-one (unfold powX in refl))
       (λ e c h ih. rw (
         powX-digit e c h,

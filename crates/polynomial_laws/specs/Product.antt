@@ -6,7 +6,7 @@ use mathlib.Core.Path.{_≡_, refl, sym, ap, _∙_}
 use Prim.Native.Nat.{ℕ, _+_, _*_, _/_, _^_, _<_}
 use native.Mathlib.Nat.{mul-left-comm, mul-one, zero-mul, one-mul, mul-zero, add-zero, zero-div}
 use native.Mathlib.Omega.{arith}
-use Rattle.definitions.specs.Polynomial.{_⊕_, degree, byDigits, prod, rem, quot}
+use Rattle.definitions.specs.Polynomial.{_⊕_, degree, byDigits, prod, rem, quot, byDigitsWithin}
 use Rattle.polynomial_laws.specs.Sum.{digit-ind, by-digit, digit-cases, ⊕-double, digit-mul-⊕, digit-⊕, zero-⊕, ⊕-bit, ⊕-zero, ⊕-mul-digit, ⊕-swap, ⊕-digit, ⊕-assoc, ⊕-cancel-both}
 use Rattle.polynomial_laws.specs.Division.{byDigits-digit, rem-digit, quot-digit, rem-zero, quot-zero, rem-lt, rem-small, quot-small, rem-⊕, quot-⊕, rem-double, rem-self, quot-self, next-digit, clear-def, timesX, timesX-zero}
 
@@ -19,7 +19,7 @@ unfolding prod
 prod-def a b = refl
 
 pub zero-prod : (b : ℕ) → prod 0 b ≡ 0
-unfolding prod
+unfolding prod byDigits byDigitsWithin
 zero-prod b = refl
 
 pub prod-digit : (a b c : ℕ) → c < 2 → prod (2 * a + c) b ≡ 2 * prod a b ⊕ c * b

@@ -1,6 +1,5 @@
 -- `catalogue::lookup` meets its contract: its answer is a function of where the entry is. Assumes nothing.
 use mathlib.Core.Path.{sym, ap, ap₂, _∙_}
-use native.Mathlib.Omega.{arith}
 use Rattle.definitions.specs.declared.Lookup.the-variants.{Body}
 use Rattle.catalogue.specs.Seek.{numbersOf, lookup-numbers, seek-located}
 use borrow.Author.Needs.{needs}

@@ -1,6 +1,5 @@
 -- `catalogue::open` meets its contract. Assumes nothing.
 use mathlib.Core.Path.{sym, ap, _∙_}
-use native.Mathlib.Omega.{arith}
 use borrow.Author.Tests.{not-true, not-false}
 use Rattle.definitions.specs.declared.Opening.the-variants.{Entries}
 use Rattle.catalogue_laws.specs.Form.{well-formed}

@@ -1,5 +1,6 @@
 -- `listing::put_header` puts the line above a list. Assumes nothing.
 use borrow.Author.Needs.{needs}
+use Rattle.definitions.specs.Number.{numbers}
 use Rattle.listing.specs.Lines.{header-line}
 use Rattle.listing.proofs.put_header.Statement.{statement}
 use Rattle.listing.proofs.put_header.Tie as tie
@@ -20,6 +21,7 @@ same-length : tie.Need-same-length
 same-length c = search needs
 
 returns : tie.Need-returns
+unfolding numbers
 returns c = rw header-line (c .before .before .put-long-line .ensures)
 
 pub put-header-spec : {M : Type 1} → statement M

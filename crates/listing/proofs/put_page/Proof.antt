@@ -1,5 +1,6 @@
 -- `listing::put_page` puts the line below a page. Assumes nothing.
 use borrow.Author.Needs.{needs}
+use Rattle.definitions.specs.Number.{numbers}
 use Rattle.listing.specs.Lines.{page-line}
 use Rattle.listing.proofs.put_page.Statement.{statement}
 use Rattle.listing.proofs.put_page.Tie as tie
@@ -32,12 +33,14 @@ same-length : tie.Need-same-length
 same-length c = search needs
 
 returns : tie.Need-returns
+unfolding numbers
 returns c = rw (page-line, c .before .before .before .before .before .before .before .if1 .taken) (c .before .before .put-long-line .ensures)
 
 same-length-2 : tie.Need-same-length-2
 same-length-2 c = search needs
 
 returns-2 : tie.Need-returns-2
+unfolding numbers
 returns-2 c = rw (page-line, c .before .before .before .before .before .before .before .if1 .left) (c .before .before .put-long-line2 .ensures)
 
 pub put-page-spec : {M : Type 1} → statement M

@@ -1,5 +1,6 @@
 -- `listing::put_refused` puts the line of a refusal. Assumes nothing.
 use borrow.Author.Needs.{needs}
+use Rattle.definitions.specs.Number.{numbers}
 use Rattle.listing.specs.Lines.{refused-line}
 use Rattle.listing.proofs.put_refused.Statement.{statement}
 use Rattle.listing.proofs.put_refused.Tie as tie
@@ -14,6 +15,7 @@ same-length : tie.Need-same-length
 same-length c = search needs
 
 returns : tie.Need-returns
+unfolding numbers
 returns c = rw refused-line (c .before .before .put-line .ensures)
 
 pub put-refused-spec : {M : Type 1} → statement M

@@ -1,5 +1,6 @@
 -- `listing::put_total` puts the line below a list. Assumes nothing.
 use borrow.Author.Needs.{needs}
+use Rattle.definitions.specs.Number.{numbers}
 use Rattle.listing.specs.Lines.{total-line}
 use Rattle.listing.proofs.put_total.Statement.{statement}
 use Rattle.listing.proofs.put_total.Tie as tie
@@ -14,6 +15,7 @@ same-length : tie.Need-same-length
 same-length c = search needs
 
 returns : tie.Need-returns
+unfolding numbers
 returns c = rw total-line (c .before .before .put-line .ensures)
 
 pub put-total-spec : {M : Type 1} → statement M

@@ -1,6 +1,5 @@
 -- `catalogue::rows::at_row` meets its contract: each test that fails decides. Assumes nothing.
 use mathlib.Core.Path.{sym, _∙_}
-use native.Mathlib.Omega.{arith}
 use borrow.Author.Tests.{not-true, not-false}
 use Rattle.catalogue_laws.specs.Reading.{at-row-degree, at-row-top, at-row-start, at-row-behind, at-row-whole}
 use borrow.Author.Needs.{needs}

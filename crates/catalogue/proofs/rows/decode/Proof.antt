@@ -7,44 +7,8 @@ use borrow.Author.Needs.{needs}
 use Rattle.catalogue.proofs.rows.decode.Statement.{statement}
 use Rattle.catalogue.proofs.rows.decode.Tie as tie
 
-shl-t5 : tie.Need-shl-t5
-shl-t5 c = search needs
-
-number2-requires : tie.Need-number2-requires
-number2-requires c κs = search needs
-
 add-t7 : tie.Need-add-t7
 add-t7 c = let m = c .before .before .args .degree in omega (arith, one-shl m (search needs), pow-mono {i = m} {j = 16} (search needs))
-
-add-number2 : tie.Need-add-number2
-add-number2 c = search needs
-
-number2-requires-2 : tie.Need-number2-requires-2
-number2-requires-2 c κs = search needs
-
-add-number2-2 : tie.Need-add-number2-2
-add-number2-2 c = search needs
-
-number2-requires-3 : tie.Need-number2-requires-3
-number2-requires-3 c κs = search needs
-
-t-at-requires : tie.Need-t-at-requires
-t-at-requires c κs = search needs
-
-t-at-requires-2 : tie.Need-t-at-requires-2
-t-at-requires-2 c κs = search needs
-
-t-at-requires-3 : tie.Need-t-at-requires-3
-t-at-requires-3 c κs = search needs
-
-t-at-requires-4 : tie.Need-t-at-requires-4
-t-at-requires-4 c κs = search needs
-
-t-at-requires-5 : tie.Need-t-at-requires-5
-t-at-requires-5 c κs = search needs
-
-t-at-requires-6 : tie.Need-t-at-requires-6
-t-at-requires-6 c κs = search needs
 
 returns : tie.Need-returns
 unfolding rowAt
@@ -54,18 +18,6 @@ returns c = let m = c .before .before .before .before .before .before .before .b
 pub decode-spec : {M : Type 1} → statement M
 decode-spec =
     tie.close
-    (tie.spec
-    shl-t5
-    number2-requires
-    add-t7
-    add-number2
-    number2-requires-2
-    add-number2-2
-    number2-requires-3
-    t-at-requires
-    t-at-requires-2
-    t-at-requires-3
-    t-at-requires-4
-    t-at-requires-5
-    t-at-requires-6
-    returns)
+    (tie.spec (λ c. search needs) (λ c κs. search needs) add-t7 (λ c. search needs) (λ c κs. search needs) (λ c. search needs)
+    (λ c κs. search needs) (λ c κs. search needs) (λ c κs. search needs) (λ c κs. search needs) (λ c κs. search needs)
+    (λ c κs. search needs) (λ c κs. search needs) returns)

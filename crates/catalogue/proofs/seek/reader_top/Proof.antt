@@ -1,6 +1,5 @@
 -- `catalogue::seek::reader_top` meets its contract: its answer is a function of where the entry is. Assumes nothing.
 use mathlib.Core.Path.{sym, ap, _∙_}
-use native.Mathlib.Omega.{arith}
 use Rattle.catalogue.specs.Seek.{topOf, reader-top, seek-located}
 use borrow.Author.Needs.{needs}
 use Rattle.catalogue.proofs.seek.reader_top.Statement.{statement}

@@ -1,6 +1,5 @@
 -- `catalogue::seek::seek` meets its contract: the refusals in their order. Assumes nothing.
 use mathlib.Core.Path.{sym, ap, _∙_}
-use native.Mathlib.Omega.{arith}
 use borrow.Author.Tests.{not-true, not-false}
 use Rattle.catalogue.specs.declared.seek.Sought.the-variants.{At}
 use Rattle.catalogue_laws.specs.Form.{well-formed}

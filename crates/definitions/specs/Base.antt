@@ -1,0 +1,32 @@
+-- What the definitions are written in: truth values, lists, numbers, texts and the tests on them, all from the toolchain's libraries, and the
+-- public types of `src/lib.rt` with their cases. Nothing is defined here.
+pub use mathlib.Core.Bool.{Bool, true, false, cond, not, _&&_, _||_}
+pub use mathlib.Core.List.{List, [], _∷_, _++_, map}
+pub use Prim.Native.Nat.{ℕ, zero, suc, _+_, _-_, _*_, _/_, _%_, _^_, min}
+pub use Prim.Native.String.{String, len, charAt}
+pub use Prim.Native.Char.{code}
+pub use lib.Dec.{eqb, leb, ltb}
+pub use lib.ListN.{length, take, drop, getD, replicate}
+pub use lib.Bits.{bitXor}
+pub use Rattle.definitions.specs.declared.Position.{Position}
+pub use Rattle.definitions.specs.declared.Position.the-variants.{Start, After}
+pub use Rattle.definitions.specs.declared.PageRequest.{PageRequest}
+pub use Rattle.definitions.specs.declared.Refusal.{Refusal}
+pub use Rattle.definitions.specs.declared.Refusal.the-variants.{WrongDegree, WrongDimension, IllFormedPair, NotPrimitive, QuotientNotLinear, StepNotCoprime, ShortSlice, BeyondPeriod, IllFormedCatalogue, DegreeMissing}
+pub use Rattle.definitions.specs.declared.Judgement.{Judgement}
+pub use Rattle.definitions.specs.declared.Judgement.the-variants.{Accepted, Rejected}
+pub use Rattle.definitions.specs.declared.Uniformity.{Uniformity}
+pub use Rattle.definitions.specs.declared.Uniformity.the-variants.{Value, Undefined}
+pub use Rattle.definitions.specs.declared.PageAnswer.{PageAnswer}
+pub use Rattle.definitions.specs.declared.PageAnswer.the-variants.{Page, NoPage}
+pub use Rattle.definitions.specs.declared.PointsAnswer.{PointsAnswer}
+pub use Rattle.definitions.specs.declared.PointsAnswer.the-variants.{Written, NotWritten}
+pub use Rattle.definitions.specs.declared.Opening.{Opening}
+pub use Rattle.definitions.specs.declared.Opening.the-variants.{Entries, Closed}
+pub use Rattle.definitions.specs.declared.Lookup.{Lookup}
+pub use Rattle.definitions.specs.declared.Lookup.the-variants.{Body, NoBody}
+pub use Rattle.definitions.specs.declared.Row.{Row}
+pub use Rattle.definitions.specs.declared.NextRow.{NextRow}
+pub use Rattle.definitions.specs.declared.NextRow.the-variants.{Found, End}
+pub use Rattle.definitions.specs.declared.Line.{Line}
+pub use Rattle.definitions.specs.declared.Line.the-variants.{Asked, Unreadable}
