@@ -1,4 +1,4 @@
-// One line is read, and its list printed, or why there is none. No contract can say what is read or written: `answer` says what it prints.
+// One line is read, and its list printed, or why there is none. No contract can say what is read or written: `answer` hands back what it prints.
 ghost use mathlib.Core.Path.{_≡_};
 ghost use Rattle.definitions.specs.Listing.{listing};
 ghost use Rattle.listing_program.specs.Decision.{printedText};

@@ -12,9 +12,7 @@ use Rattle.listing.proofs.put_row.Statement.{statement}
 use Rattle.listing.proofs.put_row.Tie as tie
 
 returns : tie.Need-returns
-returns c =
-    let a = c .before .before .before .args in
-    not-put (a .at) (rowText (now (a .row))) (now (a .out)) (omega arith)
+returns c = let a = c .before .before .before .args in not-put (a .at) (rowText (now (a .row))) (now (a .out)) (omega arith)
 
 write-row-requires : tie.Need-write-row-requires
 write-row-requires c κs =

@@ -22,6 +22,9 @@ abbrev μ-loop : tie.MeasureT-loop
 few : (top n size : ℕ) → n * (top + 1) ≤ size → size ≤ 36864 → n ≤ 36864
 few top n size h k = let r = rows-few n (top + 1) size (omega arith) h in omega arith
 
+few-at-hand : (c : tie.Start) → c .args .count ≤ 36864
+few-at-hand c = few (c .args .top) (c .args .count) (length (now (c .args .rows))) (c .pre .1 .1 .1 .0) (c .pre .1 .1 .0)
+
 -- What a turn starts with.
 turn : (c : tie.After-next-part-arg Inv-loop μ-loop) → let here = c .before .before .before .before .loop in (1 ≤ here .n) × (here .done < 1000000000)
 turn c = (ltb-true _ _ (c .before .before .if2 .taken), ltb-true _ _ (c .before .if3 .taken))
@@ -38,22 +41,16 @@ part c =
 print-rows-requires : tie.Need-print-rows-requires Inv-loop μ-loop
 print-rows-requires c κs =
     let start = c .before .before .before .before in
-    let a = start .args in
-    let small = few (a .top) (a .count) (length (now (a .rows))) (start .pre .1 .1 .1 .0) (start .pre .1 .1 .0) in
+    let small = few-at-hand start in
     (omega (arith, start .pre .1 .1 .1 .1), (start .pre .1 .1 .1 .0, (start .pre .1 .0, omega arith)))
 
 cast-done : tie.Need-cast-done Inv-loop μ-loop
-cast-done c =
-    let start = c .before .before .before .before .before in
-    let a = start .args in
-    let small = few (a .top) (a .count) (length (now (a .rows))) (start .pre .1 .1 .1 .0) (start .pre .1 .1 .0) in
-    omega arith
+cast-done c = omega (arith, few-at-hand (c .before .before .before .before .before))
 
 loop-holds : tie.Need-loop-holds Inv-loop μ-loop
 loop-holds c =
     let start = c .before .before .before .before .before in
-    let a = start .args in
-    let small = few (a .top) (a .count) (length (now (a .rows))) (start .pre .1 .1 .1 .0) (start .pre .1 .1 .0) in
+    let small = few-at-hand start in
     (refl, start .pre .1 .1 .1 .0, omega arith)
 
 next-part-requires : tie.Need-next-part-requires Inv-loop μ-loop
