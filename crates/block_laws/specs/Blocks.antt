@@ -5,30 +5,27 @@ use mathlib.Core.Path.{_≡_, refl, sym, ap, ap₂, _∙_, fun-ext}
 use mathlib.Core.Bool.{Bool, true, false}
 use mathlib.Core.List.{List, [], _∷_, map}
 use Prim.Native.Nat.{ℕ, zero, suc, _+_, _*_, _%_, _^_, _≤_, _<_}
-use native.Mathlib.Nat.{zero-mul}
 use native.Mathlib.Omega.{arith}
 use lib.ListN.{replicate}
 use Rattle.definitions.specs.Number.{bit, count, numbers}
-use Rattle.definitions.specs.Polynomial.{prod, power, rem, quot}
+use Rattle.definitions.specs.Polynomial.{prod, power}
 use Rattle.definitions.specs.Generator.{period, accepted}
 use Rattle.definitions.specs.Points.{leading, state, wordDigits, word, coordinate}
 use Rattle.polynomial_laws.specs.Degree.{HasDegree}
-use Rattle.polynomial_laws.specs.Division.{rem-zero, quot-zero}
-use Rattle.polynomial_laws.specs.Product.{zero-prod, rem-prod-left}
+use Rattle.polynomial_laws.specs.Division.{rem-prod-left}
 use Rattle.polynomial_laws.specs.Power.{power-add}
 use Rattle.order_laws.specs.Cycle.{degree-big}
 use Rattle.order_laws.specs.State.{state-power}
 use Rattle.order_laws.specs.Orbit.{state-mod, states-count}
 use Rattle.order_laws.specs.Accepted.{accepted-is}
+use Rattle.net_laws.specs.Share.{origin-digits}
 
 -- The s coordinates of the point h, to 32 digits.
 unfoldable pub point : ℕ → ℕ → ℕ → ℕ → List ℕ
-unfolding numbers leading coordinate
 point p q s h = map (λ (j : ℕ). leading p wordDigits (coordinate p q j h)) (numbers 0 s)
 
 -- The s words from word i on, round the period.
 unfoldable pub block : ℕ → ℕ → ℕ → ℕ → ℕ → List ℕ
-unfolding numbers word
 block m p q s i = map (λ (j : ℕ). word p q ((i + j) % period m)) (numbers 0 s)
 
 unfoldable pub origin : ℕ → List ℕ
@@ -39,18 +36,10 @@ unfolding numbers
 zeros zero a = refl
 zeros (suc s) a = ap (λ (l : List ℕ). 0 ∷ l) (zeros s (suc a))
 
-leading-zero : (p d : ℕ) → leading p d 0 ≡ 0
-unfolding leading
-leading-zero p d = ap (λ (y : ℕ). quot y p) (zero-mul (2 ^ d)) ∙ quot-zero p
-
-coordinate-zero : (p q j : ℕ) → coordinate p q j 0 ≡ 0
-unfolding coordinate
-coordinate-zero p q j = ap (λ (y : ℕ). rem y p) (zero-prod (power q j)) ∙ rem-zero p
-
 pub point-zero : (p q s : ℕ) → point p q s 0 ≡ origin s
 unfolding point origin
 point-zero p q s =
-    ap (λ (f : ℕ → ℕ). map f (numbers 0 s)) (fun-ext (λ j. ap (leading p wordDigits) (coordinate-zero p q j) ∙ leading-zero p wordDigits)) ∙ zeros s 0
+    ap (λ (f : ℕ → ℕ). map f (numbers 0 s)) (fun-ext (λ j. origin-digits p q j wordDigits)) ∙ zeros s 0
 
 module _ (p : ℕ) (big : 2 ≤ p) where
   pub coordinate-state : (q i j : ℕ) → coordinate p q j (state p q i) ≡ state p q (i + j)
@@ -66,7 +55,7 @@ module _ (m p q : ℕ) (positive : 1 ≤ m) (d : HasDegree p m) (nonzero : 0 < q
       ap (λ (f : ℕ → ℕ). map f (numbers 0 s))
       (fun-ext (λ j. ap (leading p wordDigits) (coordinate-state p (degree-big m p positive d) q i j ∙ sym (state-mod m p positive d (h .primitive-p) q nonzero residue (i + j)))))
 
-  -- THE BLOCKS: whatever is asked of a point, as many points have it as the origin and the blocks together.
+  -- Whatever is asked of a point, as many points have it as the origin and the blocks together.
   pub points-are-blocks : (s : ℕ) (test : List ℕ → Bool)
       → count (2 ^ m) (λ h. test (point p q s h)) ≡ count (period m) (λ i. test (block m p q s i)) + bit (test (origin s))
   points-are-blocks s test =

@@ -2,7 +2,7 @@
 ghost use mathlib.Core.Path.{_≡_};
 ghost use mathlib.Core.Bool.{_&&_};
 ghost use Prim.Native.Nat.{ℕ, _+_, _*_, _^_, _<_, _≤_};
-ghost use lib.Dec.{leb};
+ghost use lib.Dec.{ltb};
 ghost use lib.ListN.{length};
 ghost use Rattle.definitions.specs.Number.{every};
 ghost use Rattle.definitions.specs.Catalogue.{byteAt, numberAt, contentsSize, rowSize, bodySize, rowForm, entryAt, entryForm, entriesForm, catalogueForm};
@@ -35,15 +35,15 @@ pub fn number4(s: &[u8], i: usize) -> u32
     number2(s, i) * 65536 + number2(s, i + 2)
 }
 
-// Each of the n bytes at `at` is at most `most`.
-pub fn bytes_at_most(s: &[u8], at: usize, n: usize, most: u32) -> bool
+// Each of the n bytes at `at` is below `bound`.
+pub fn bytes_below(s: &[u8], at: usize, n: usize, bound: u32) -> bool
     requires { ⌜ at + n ≤ length (now s) ⌝ }
-    ensures { λ r. ⌜ r ≡ every n (λ (k : ℕ). leb (byteAt (now (s .entry)) (at + k)) most) ⌝ }
+    ensures { λ r. ⌜ r ≡ every n (λ (k : ℕ). ltb (byteAt (now (s .entry)) (at + k)) bound) ⌝ }
 {
     let mut left = n;
     while left > 0 {
         left -= 1;
-        if byte(s, at + left) > most {
+        if byte(s, at + left) >= bound {
             return false;
         }
     }
@@ -64,7 +64,7 @@ pub fn row_form(s: &[u8], degree: u32, limit: u32, top: u32, at: usize) -> bool
     if number2(s, at + 4) >= limit {
         return false;
     }
-    bytes_at_most(s, at + 6, top as usize - 2, degree)
+    bytes_below(s, at + 6, top as usize - 2, degree + 1)
 }
 
 // The rows of the body at `at`, the last one first.

@@ -3,9 +3,9 @@
 -- they are the point set in every dimension. From the laws of orders, of nets and of blocks. Assumes nothing.
 use mathlib.Core.Path.{_≡_, refl, sym, ap, _∙_, subst}
 use mathlib.Core.Logic.{_↔_}
-use mathlib.Core.Bool.{Bool, true, false, not, _&&_, and-eq-true-iff}
+use mathlib.Core.Bool.{Bool, true, false, not, and-eq-true-iff}
 use mathlib.Core.List.{List, _++_}
-use Prim.Native.Nat.{ℕ, _+_, _-_, _^_, _≤_, _<_}
+use Prim.Native.Nat.{ℕ, _+_, _-_, _^_, _≤_}
 use native.Mathlib.Omega.{arith}
 use lib.Dec.{leb}
 use lib.ListN.{length, drop}
@@ -16,9 +16,10 @@ use Rattle.definitions.specs.Generator.{leastDegree, largestDegree, lawfulDegre
 use Rattle.definitions.specs.Answers.{unless}
 use Rattle.definitions.specs.Net.{tValue}
 use Rattle.definitions.specs.Points.{words}
-use Rattle.definitions.specs.Calls.{pairSituations, judging, judgement, pointing, wordCount, pointsSlice}
-use Rattle.definitions.specs.declared.Judgement.{Judgement}
-use Rattle.definitions.specs.declared.Judgement.the-variants.{Accepted, Rejected}
+use Rattle.definitions.specs.Calls.{pairSituations, judging, judgement, measuring, uniformity, pointing, wordCount, pointsSlice}
+use Rattle.definitions.specs.Ranking.{lawfulDimension}
+use Rattle.definitions.specs.declared.Uniformity.the-variants.{Value}
+use Rattle.definitions.specs.declared.Judgement.the-variants.{Accepted}
 use Rattle.fraction_laws.specs.WellFormed.{WellFormed, wellFormed-is}
 use Rattle.fraction_laws.specs.Quotients.{LinearQuotients, linearQuotients-is}
 use Rattle.order_laws.specs.Powers.{IsOrder}
@@ -29,7 +30,7 @@ use Rattle.order_laws.specs.Accepted.{IsStep, accepted-is, coprime-step, FullPe
 use Rattle.net_laws.specs.Smallest.{SmallestNet, tValue-smallest}
 use Rattle.block_laws.specs.Blocks.{point, block, origin, points-are-blocks}
 use Rattle.demands.specs.Situations.{applies}
-use Rattle.demands.specs.Demand1.{judgementNumber, judging-exact}
+use Rattle.demands.specs.Demand1.{judgementNumber, uniformityNumber, judging-exact, measuring-exact}
 
 -- What is asked of a pair of degree m and its step σ.
 pub record Conditions (m p q σ : ℕ) : Type 0 where
@@ -125,6 +126,18 @@ accepted-judged m p q l f = (
 -- THE T-VALUE, for every well-formed pair and every dimension.
 pub t-value-smallest : (m p q s : ℕ) → wellFormed m p q ≡ true → SmallestNet m p q s (tValue m p q s)
 t-value-smallest m p q s f = tValue-smallest m p q s (omega (arith, wellFormed-is m p q .0 f .degree-p .least, pow-pos m))
+
+-- A t-value that is given is that smallest one.
+pub uniformity-smallest : (m p q s t : ℕ) → uniformity m p q s ≡ Value t → SmallestNet m p q s t
+unfolding uniformity unless measuring applies
+uniformity-smallest m p q s t e =
+    let none : (n : ℕ) → applies (measuring m p q s) n ≡ false = measuring-exact m p q s .none .0 (ap uniformityNumber e) in
+    let formed = not-not (wellFormed m p q) (none 3) in
+    let given : uniformity m p q s ≡ Value (tValue m p q s) = rw (not-not (lawfulDegree m) (none 1), unless, not-not (lawfulDimension s) (none 2), formed) in
+    subst (SmallestNet m p q s) (same (tValue m p q s) t (sym given ∙ e)) (t-value-smallest m p q s formed)
+  where
+    same : (a b : ℕ) → Value a ≡ Value b → a ≡ b
+    same a b d = cc
 
 -- THE FULL PERIOD: the states of an accepted pair are all nonzero polynomials of degree below m, each once, and then 1 again.
 pub period-full : (m p q σ : ℕ) → Conditions m p q σ → FullPeriod m p q

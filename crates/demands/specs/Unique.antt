@@ -1,106 +1,151 @@
 -- No choice is left: for each public call, two results, and what two runs leave in the lent slices, that its contract allows are equal.
--- Each contract is stated as the source states it; all are equations with one definition, so two sides equal to it are equal. Assumes nothing.
+-- Each statement is over the contract itself: `Post`, made by the toolchain from the source's `ensures` clauses, is what they claim of the lifetimes,
+-- the arguments, the result and the arguments at exit (`e .0` is the first of these, `e .1 .0` the second, and so on). Every clause is an equation
+-- with one definition, and what equals one thing is equal.
+-- Assumes nothing.
 use mathlib.Core.Path.{_≡_, sym, _∙_}
-use mathlib.Core.List.{List}
-use Prim.Native.Nat.{ℕ}
-use Rattle.definitions.specs.Calls.{judgement, uniformity, pageAnswer, pageSlice, pointsAnswer, pointsSlice}
-use Rattle.definitions.specs.Catalogue.{opening, lookupNumbers, lookupPart, readerTop, nextRow, nextPlace}
-use Rattle.definitions.specs.Listing.{readLine}
-use Rattle.definitions.specs.declared.PageRequest.{PageRequest}
-use Rattle.definitions.specs.declared.Judgement.{Judgement}
-use Rattle.definitions.specs.declared.Uniformity.{Uniformity}
-use Rattle.definitions.specs.declared.PageAnswer.{PageAnswer}
-use Rattle.definitions.specs.declared.PointsAnswer.{PointsAnswer}
-use Rattle.definitions.specs.declared.Opening.{Opening}
-use Rattle.definitions.specs.declared.Lookup.{Lookup}
-use Rattle.definitions.specs.declared.NextRow.{NextRow}
-use Rattle.definitions.specs.declared.Line.{Line}
+use denote.Ref.{now}
+use base.Logic.{ent}
+use contract.Monad.{conj, conjL, conjR, fact, factI, fact-use}
+use borrow.Fn.World.{World}
+use Rattle.generator.proofs.judge.Reads as judge
+use Rattle.net.proofs.t_value.Reads as t-value
+use Rattle.ranking.proofs.page.Reads as page
+use Rattle.points.proofs.points.Reads as points
+use Rattle.catalogue.proofs.«open».Reads as opened
+use Rattle.catalogue.proofs.lookup.Reads as lookup
+use Rattle.catalogue.proofs.body.Reads as body
+use Rattle.catalogue.proofs.row_at.Reads as row-at
+use Rattle.catalogue.proofs.place_behind.Reads as place-behind
+use Rattle.listing.proofs.read_line.Reads as read-line
+use Rattle.listing.proofs.put_decimal.Reads as put-decimal
+use Rattle.listing.proofs.put_header.Reads as put-header
+use Rattle.listing.proofs.put_row.Reads as put-row
+use Rattle.listing.proofs.put_page.Reads as put-page
+use Rattle.listing.proofs.put_total.Reads as put-total
+use Rattle.listing.proofs.put_refused.Reads as put-refused
+use Rattle.catalogue.proofs.reader as reader
+use Rattle.catalogue.proofs.next as next
+use Rattle.catalogue.proofs.advance as advance
+use Rattle.interface.proofs.fenyurka_judge.Reads as c-judge
+use Rattle.interface.proofs.fenyurka_t_value.Reads as c-t-value
+use Rattle.interface.proofs.fenyurka_first_page.Reads as c-first-page
+use Rattle.interface.proofs.fenyurka_page_after.Reads as c-page-after
+use Rattle.interface.proofs.fenyurka_points.Reads as c-points
+use Rattle.interface.proofs.fenyurka_open.Reads as c-opened
+use Rattle.interface.proofs.fenyurka_lookup.Reads as c-lookup
+use Rattle.interface.proofs.fenyurka_row.Reads as c-row
 
--- What equals one thing is equal.
 same : {A : Type 0} {x y z : A} → x ≡ z → y ≡ z → x ≡ y
 same a b = a ∙ sym b
 
 -- ---- calls with a result alone
 
-module _ (m p q : ℕ) where
-  abbrev pub Judges : Judgement → Type 0
-  Judges r = r ≡ judgement m p q
+pub judge-unique : (κs : _) (a : _) (r r′ : _) (e e′ : _) → judge.Post κs a r e → judge.Post κs a r′ e′ → r ≡ r′
+judge-unique κs a r r′ e e′ x y = same x y
 
-  pub judge-unique : {r r′ : Judgement} → Judges r → Judges r′ → r ≡ r′
-  judge-unique = same
+pub t-value-unique : (κs : _) (a : _) (r r′ : _) (e e′ : _) → t-value.Post κs a r e → t-value.Post κs a r′ e′ → r ≡ r′
+t-value-unique κs a r r′ e e′ x y = same x y
 
-  abbrev pub Measures : ℕ → Uniformity → Type 0
-  Measures s r = r ≡ uniformity m p q s
+pub open-unique : (κs : _) (a : _) (r r′ : _) (e e′ : _) → opened.Post κs a r e → opened.Post κs a r′ e′ → r ≡ r′
+open-unique κs a r r′ e e′ x y = same x y
 
-  pub t-value-unique : (s : ℕ) {r r′ : Uniformity} → Measures s r → Measures s r′ → r ≡ r′
-  t-value-unique s = same
+pub lookup-unique : (κs : _) (a : _) (r r′ : _) (e e′ : _) → lookup.Post κs a r e → lookup.Post κs a r′ e′ → r ≡ r′
+lookup-unique κs a r r′ e e′ x y = same x y
 
-module _ (file : List ℕ) where
-  abbrev pub Opens : Opening → Type 0
-  Opens r = r ≡ opening file
+-- Determined in its bytes, and not as a pointer: any part with these bytes answers.
+pub body-unique : (κs : _) (a : _) (r r′ : _) (e e′ : _) → body.Post κs a r e → body.Post κs a r′ e′ → now r ≡ now r′
+body-unique κs a r r′ e e′ x y = same x y
 
-  pub open-unique : {r r′ : Opening} → Opens r → Opens r′ → r ≡ r′
-  open-unique = same
+pub row-at-unique : (κs : _) (a : _) (r r′ : _) (e e′ : _) → row-at.Post κs a r e → row-at.Post κs a r′ e′ → r ≡ r′
+row-at-unique κs a r r′ e e′ x y = same x y
 
-  abbrev pub Looks : ℕ → Lookup → Type 0
-  Looks m r = r ≡ lookupNumbers file m
+pub place-behind-unique : (κs : _) (a : _) (r r′ : _) (e e′ : _) → place-behind.Post κs a r e → place-behind.Post κs a r′ e′ → r ≡ r′
+place-behind-unique κs a r r′ e e′ x y = same x y
 
-  pub lookup-unique : (m : ℕ) {r r′ : Lookup} → Looks m r → Looks m r′ → r ≡ r′
-  lookup-unique m = same
-
-  -- The bytes of the part that is handed back.
-  abbrev pub Parts : ℕ → List ℕ → Type 0
-  Parts m r = r ≡ lookupPart file m
-
-  pub body-unique : (m : ℕ) {r r′ : List ℕ} → Parts m r → Parts m r′ → r ≡ r′
-  body-unique m = same
-
-  abbrev pub Reads : Line → Type 0
-  Reads r = r ≡ readLine file
-
-  pub read-line-unique : {r r′ : Line} → Reads r → Reads r′ → r ≡ r′
-  read-line-unique = same
-
--- ---- the reader
-
--- A reader as its bytes and its numbers.
-pub record Opened : Type 0 where
-  pub body : List ℕ
-  pub degree : ℕ
-  pub top : ℕ
-  pub place : ℕ
-
-abbrev pub OpensReader : List ℕ → ℕ → Opened → Type 0
-OpensReader file m r = r ≡ record { body = lookupPart file m; degree = m; top = readerTop file m; place = 0 }
-
-pub reader-unique : (file : List ℕ) (m : ℕ) {r r′ : Opened} → OpensReader file m r → OpensReader file m r′ → r ≡ r′
-reader-unique file m = same
-
-module _ (r : Opened) where
-  abbrev pub HandsOut : NextRow → Type 0
-  HandsOut n = n ≡ nextRow (r .degree) (r .top) (r .body) (r .place)
-
-  pub next-unique : {n n′ : NextRow} → HandsOut n → HandsOut n′ → n ≡ n′
-  next-unique = same
-
-  abbrev pub Advances : Opened → Type 0
-  Advances n = n ≡ record { body = r .body; degree = r .degree; top = r .top; place = nextPlace (r .degree) (r .top) (r .body) (r .place) }
-
-  pub advance-unique : {n n′ : Opened} → Advances n → Advances n′ → n ≡ n′
-  advance-unique = same
+pub read-line-unique : (κs : _) (a : _) (r r′ : _) (e e′ : _) → read-line.Post κs a r e → read-line.Post κs a r′ e′ → r ≡ r′
+read-line-unique κs a r r′ e e′ x y = same x y
 
 -- ---- calls with a lent slice
 
-pub record Pages (r : PageRequest) (s : List ℕ) (a : PageAnswer) (o : List ℕ) : Type 0 where
-  pub answer : a ≡ pageAnswer r s
-  pub slice : o ≡ pageSlice r s
+pub page-unique : (κs : _) (a : _) (r r′ : _) (e e′ : _) → page.Post κs a r e → page.Post κs a r′ e′ → (r ≡ r′) × (now (e .1 .0) ≡ now (e′ .1 .0))
+page-unique κs a r r′ e e′ x y = (same (x .0) (y .0), same (x .1) (y .1))
 
-pub page-unique : (r : PageRequest) (s : List ℕ) {a a′ : PageAnswer} {o o′ : List ℕ} → Pages r s a o → Pages r s a′ o′ → (a ≡ a′) × (o ≡ o′)
-page-unique r s x y = (same (x .answer) (y .answer), same (x .slice) (y .slice))
+pub points-unique : (κs : _) (a : _) (r r′ : _) (e e′ : _) → points.Post κs a r e → points.Post κs a r′ e′ → (r ≡ r′) × (now (e .1 .1 .1 .1 .0) ≡ now (e′ .1 .1 .1 .1 .0))
+points-unique κs a r r′ e e′ x y = (same (x .0) (y .0), same (x .1) (y .1))
 
-pub record Points (m p q i : ℕ) (s : List ℕ) (a : PointsAnswer) (o : List ℕ) : Type 0 where
-  pub answer : a ≡ pointsAnswer m p q i s
-  pub slice : o ≡ pointsSlice m p q i s
+pub put-decimal-unique : (κs : _) (a : _) (r r′ : _) (e e′ : _) → put-decimal.Post κs a r e → put-decimal.Post κs a r′ e′ → (r ≡ r′) × (now (e .0) ≡ now (e′ .0))
+put-decimal-unique κs a r r′ e e′ x y = (same (x .0) (y .0), same (x .1) (y .1))
 
-pub points-unique : (m p q i : ℕ) (s : List ℕ) {a a′ : PointsAnswer} {o o′ : List ℕ} → Points m p q i s a o → Points m p q i s a′ o′ → (a ≡ a′) × (o ≡ o′)
-points-unique m p q i s x y = (same (x .answer) (y .answer), same (x .slice) (y .slice))
+pub put-header-unique : (κs : _) (a : _) (r r′ : _) (e e′ : _) → put-header.Post κs a r e → put-header.Post κs a r′ e′ → (r ≡ r′) × (now (e .0) ≡ now (e′ .0))
+put-header-unique κs a r r′ e e′ x y = (same (x .0) (y .0), same (x .1) (y .1))
+
+pub put-row-unique : (κs : _) (a : _) (r r′ : _) (e e′ : _) → put-row.Post κs a r e → put-row.Post κs a r′ e′ → (r ≡ r′) × (now (e .0) ≡ now (e′ .0))
+put-row-unique κs a r r′ e e′ x y = (same (x .0) (y .0), same (x .1) (y .1))
+
+pub put-page-unique : (κs : _) (a : _) (r r′ : _) (e e′ : _) → put-page.Post κs a r e → put-page.Post κs a r′ e′ → (r ≡ r′) × (now (e .0) ≡ now (e′ .0))
+put-page-unique κs a r r′ e e′ x y = (same (x .0) (y .0), same (x .1) (y .1))
+
+pub put-total-unique : (κs : _) (a : _) (r r′ : _) (e e′ : _) → put-total.Post κs a r e → put-total.Post κs a r′ e′ → (r ≡ r′) × (now (e .0) ≡ now (e′ .0))
+put-total-unique κs a r r′ e e′ x y = (same (x .0) (y .0), same (x .1) (y .1))
+
+pub put-refused-unique : (κs : _) (a : _) (r r′ : _) (e e′ : _) → put-refused.Post κs a r e → put-refused.Post κs a r′ e′ → (r ≡ r′) × (now (e .0) ≡ now (e′ .0))
+put-refused-unique κs a r r′ e e′ x y = (same (x .0) (y .0), same (x .1) (y .1))
+
+-- ---- the reader: the toolchain gives no `Post` for a struct that holds a slice, so the clauses themselves stand here, in any model of the logic
+
+module _ (w : World) where
+  facts-both : {φ ψ χ : Type 0} → (φ → ψ → χ) → ent (w .𝓤) (conj (w .𝓤) (fact (w .𝓤) φ) (fact (w .𝓤) ψ)) (fact (w .𝓤) χ)
+  facts-both {φ} {ψ} {χ} f =
+      fact-use (w .𝓤) φ (conjL (w .𝓤) (fact (w .𝓤) φ) (fact (w .𝓤) ψ))
+      (λ x. fact-use (w .𝓤) ψ (conjR (w .𝓤) (fact (w .𝓤) φ) (fact (w .𝓤) ψ)) (λ y. factI (w .𝓤) χ _ (f x y)))
+
+  pub reader-unique : (κs : _) (a : _) (r r′ : _) (e e′ : _)
+      → ent (w .𝓤)
+      (conj (w .𝓤)
+      (reader.clauses (w .𝓤) (w .H) (w .𝓖 .A) (w .𝓜 .mem) (w .𝓡 .run) κs a .ensures tt r e)
+      (reader.clauses (w .𝓤) (w .H) (w .𝓖 .A) (w .𝓜 .mem) (w .𝓡 .run) κs a .ensures tt r′ e′))
+      (fact (w .𝓤) ((now (r .body) ≡ now (r′ .body)) × (r .degree ≡ r′ .degree) × (r .top ≡ r′ .top) × (r .place ≡ r′ .place)))
+  reader-unique κs a r r′ e e′ = facts-both (λ x y. (same (x .0) (y .0), same (x .1) (y .1), same (x .2) (y .2), same (x .3) (y .3)))
+
+  pub next-unique : (κs : _) (a : _) (r r′ : _) (e e′ : _)
+      → ent (w .𝓤)
+      (conj (w .𝓤)
+      (next.clauses (w .𝓤) (w .H) (w .𝓖 .A) (w .𝓜 .mem) (w .𝓡 .run) κs a .ensures tt r e)
+      (next.clauses (w .𝓤) (w .H) (w .𝓖 .A) (w .𝓜 .mem) (w .𝓡 .run) κs a .ensures tt r′ e′))
+      (fact (w .𝓤) (r ≡ r′))
+  next-unique κs a r r′ e e′ = facts-both same
+
+  pub advance-unique : (κs : _) (a : _) (r r′ : _) (e e′ : _)
+      → ent (w .𝓤)
+      (conj (w .𝓤)
+      (advance.clauses (w .𝓤) (w .H) (w .𝓖 .A) (w .𝓜 .mem) (w .𝓡 .run) κs a .ensures tt r e)
+      (advance.clauses (w .𝓤) (w .H) (w .𝓖 .A) (w .𝓜 .mem) (w .𝓡 .run) κs a .ensures tt r′ e′))
+      (fact (w .𝓤) ((r .body ≡ r′ .body) × (r .degree ≡ r′ .degree) × (r .top ≡ r′ .top) × (r .place ≡ r′ .place)))
+  advance-unique κs a r r′ e e′ = facts-both (λ x y. (same (x .0) (y .0), same (x .1) (y .1), same (x .2) (y .2), same (x .3) (y .3)))
+
+-- ---- from C: the number returned, each number stored and each slice
+
+pub c-judge-unique : (κs : _) (a : _) (r r′ : _) (e e′ : _) → c-judge.Post κs a r e → c-judge.Post κs a r′ e′ → (r ≡ r′) × (now (e .1 .1 .1 .0) ≡ now (e′ .1 .1 .1 .0))
+c-judge-unique κs a r r′ e e′ x y = (same (x .0) (y .0), same (x .1) (y .1))
+
+pub c-t-value-unique : (κs : _) (a : _) (r r′ : _) (e e′ : _) → c-t-value.Post κs a r e → c-t-value.Post κs a r′ e′ → (r ≡ r′) × (now (e .1 .1 .1 .1 .0) ≡ now (e′ .1 .1 .1 .1 .0))
+c-t-value-unique κs a r r′ e e′ x y = (same (x .0) (y .0), same (x .1) (y .1))
+
+pub c-first-page-unique : (κs : _) (a : _) (r r′ : _) (e e′ : _) → c-first-page.Post κs a r e → c-first-page.Post κs a r′ e′ → (r ≡ r′) × (now (e .1 .1 .0) ≡ now (e′ .1 .1 .0)) × (now (e .1 .1 .1 .0) ≡ now (e′ .1 .1 .1 .0)) × (now (e .1 .1 .1 .1 .0) ≡ now (e′ .1 .1 .1 .1 .0))
+c-first-page-unique κs a r r′ e e′ x y = (same (x .0) (y .0), same (x .1 .0) (y .1 .0), same (x .1 .1 .0) (y .1 .1 .0), same (x .1 .1 .1) (y .1 .1 .1))
+
+pub c-page-after-unique : (κs : _) (a : _) (r r′ : _) (e e′ : _) → c-page-after.Post κs a r e → c-page-after.Post κs a r′ e′ → (r ≡ r′) × (now (e .1 .1 .1 .1 .0) ≡ now (e′ .1 .1 .1 .1 .0)) × (now (e .1 .1 .1 .1 .1 .0) ≡ now (e′ .1 .1 .1 .1 .1 .0)) × (now (e .1 .1 .1 .1 .1 .1 .0) ≡ now (e′ .1 .1 .1 .1 .1 .1 .0))
+c-page-after-unique κs a r r′ e e′ x y = (same (x .0) (y .0), same (x .1 .0) (y .1 .0), same (x .1 .1 .0) (y .1 .1 .0), same (x .1 .1 .1) (y .1 .1 .1))
+
+pub c-points-unique : (κs : _) (a : _) (r r′ : _) (e e′ : _) → c-points.Post κs a r e → c-points.Post κs a r′ e′ → (r ≡ r′) × (now (e .1 .1 .1 .1 .0) ≡ now (e′ .1 .1 .1 .1 .0)) × (now (e .1 .1 .1 .1 .1 .0) ≡ now (e′ .1 .1 .1 .1 .1 .0))
+c-points-unique κs a r r′ e e′ x y = (same (x .0) (y .0), same (x .1 .0) (y .1 .0), same (x .1 .1) (y .1 .1))
+
+pub c-open-unique : (κs : _) (a : _) (r r′ : _) (e e′ : _) → c-opened.Post κs a r e → c-opened.Post κs a r′ e′ → (r ≡ r′) × (now (e .1 .0) ≡ now (e′ .1 .0))
+c-open-unique κs a r r′ e e′ x y = (same (x .0) (y .0), same (x .1) (y .1))
+
+pub c-lookup-unique : (κs : _) (a : _) (r r′ : _) (e e′ : _) → c-lookup.Post κs a r e → c-lookup.Post κs a r′ e′ → (r ≡ r′) × (now (e .1 .1 .0) ≡ now (e′ .1 .1 .0)) × (now (e .1 .1 .1 .0) ≡ now (e′ .1 .1 .1 .0)) × (now (e .1 .1 .1 .1 .0) ≡ now (e′ .1 .1 .1 .1 .0))
+c-lookup-unique κs a r r′ e e′ x y = (same (x .0) (y .0), same (x .1 .0) (y .1 .0), same (x .1 .1 .0) (y .1 .1 .0), same (x .1 .1 .1) (y .1 .1 .1))
+
+pub c-row-unique : (κs : _) (a : _) (r r′ : _) (e e′ : _) → c-row.Post κs a r e → c-row.Post κs a r′ e′ → (r ≡ r′) × (now (e .1 .1 .1 .1 .0) ≡ now (e′ .1 .1 .1 .1 .0)) × (now (e .1 .1 .1 .1 .1 .0) ≡ now (e′ .1 .1 .1 .1 .1 .0))
+c-row-unique κs a r r′ e e′ x y = (same (x .0) (y .0), same (x .1 .0) (y .1 .0), same (x .1 .1) (y .1 .1))

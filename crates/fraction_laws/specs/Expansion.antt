@@ -9,10 +9,9 @@ use native.Mathlib.Omega.{arith}
 use lib.Pow.{pow-mono}
 use Rattle.definitions.specs.Polynomial.{_⊕_, degree, prod, quot, rem}
 use Rattle.definitions.specs.Generator.{Expansion, found, expansionWithin, expansion, Pair, child}
-use Rattle.polynomial_laws.specs.Degree.{degree-is, exponents}
-use Rattle.polynomial_laws.specs.Division.{rem-lt}
-use Rattle.polynomial_laws.specs.Product.{division, quot-unique, rem-unique, prod-zero, prod-one, prod-⊕, prod-left-comm}
-use Rattle.polynomial_laws.specs.ProductDegree.{quotient-degree}
+use Rattle.polynomial_laws.specs.Degree.{degree-is, exponent-le}
+use Rattle.polynomial_laws.specs.Product.{prod-zero, prod-one, prod-⊕, prod-left-comm}
+use Rattle.polynomial_laws.specs.Division.{rem-lt, division, quot-unique, rem-unique, quotient-degree}
 
 pub found-def : (a : ℕ) (e : Expansion) → found a e ≡ record { quotients = a ∷ e .quotients; common = e .common }
 unfolding found
@@ -109,9 +108,9 @@ unfolding totalDegree found
 degrees-add = expansion-ind (λ p q e. 0 < p → q < 2 * 2 ^ degree p → totalDegree (e .quotients) + degree (e .common) ≡ degree p)
     (λ p pos h. zero-add (degree p))
     (λ p q e pq ih pp h.
-    let l = exponents (degree q) (degree p) q (degree-is q pq .least) h in
+    let l = exponent-le (degree q) (degree p) q (degree-is q pq .least) (omega arith) in
     let k : 2 ^ degree q ≤ p = omega (arith, pow-mono l, degree-is p pp .least) in
-    omega (arith, ih pq (omega (arith, rem-lt q pq p)), quotient-degree p q pq k))
+    omega (arith, ih pq (omega (arith, rem-lt q pq p)), quotient-degree q pq p k))
 
 pub common-positive : (p q : ℕ) → 0 < p → 0 < expansion p q .common
 unfolding found
@@ -119,4 +118,4 @@ common-positive = expansion-ind (λ p q e. 0 < p → 0 < e .common) (λ p h. h) 
 
 -- a quotient's degree, before the division
 pub quotient-drop : (p q : ℕ) → 0 < q → q < p → degree p ≡ degree (quot p q) + degree q
-quotient-drop p q pos h = quotient-degree p q pos (omega (arith, degree-is q pos .least))
+quotient-drop p q pos h = quotient-degree q pos p (omega (arith, degree-is q pos .least))

@@ -7,8 +7,8 @@ use native.Mathlib.Omega.{arith}
 use Rattle.definitions.specs.Polynomial.{_⊕_, degree, prod, quot, rem}
 use Rattle.definitions.specs.Generator.{found, expansion, linearQuotients}
 use Rattle.polynomial_laws.specs.Sum.{⊕-sums, ⊕-zero}
-use Rattle.polynomial_laws.specs.Division.{rem-lt, rem-small}
-use Rattle.polynomial_laws.specs.Product.{prod-zero, prod-one, prod-⊕, ⊕-prod, prod-comm, prod-assoc, one-prod, division, rem-unique, rem-prod-left, rem-prod-right}
+use Rattle.polynomial_laws.specs.Product.{prod-zero, prod-one, prod-⊕, ⊕-prod, prod-comm, prod-assoc, one-prod}
+use Rattle.polynomial_laws.specs.Division.{rem-lt, rem-small, division, rem-unique, rem-prod-left, rem-prod-right}
 use Rattle.polynomial_laws.specs.Power.{one-small}
 use Rattle.fraction_laws.specs.Expansion.{expansion-ind}
 use Rattle.fraction_laws.specs.Quotients.{linearQuotients-is}

@@ -1,20 +1,20 @@
 -- Partial quotients of degree one. The computed test holds just where every quotient is x or x + 1 and the common factor is 1; then there are
 -- as many quotients as p has degree. Euclid's steps decide the test one quotient at a time, each by a difference of degrees.
 -- Assumes nothing.
-use mathlib.Core.Path.{_≡_, refl, ap, subst}
+use mathlib.Core.Path.{_≡_, refl, ap, _∙_, subst}
 use mathlib.Core.Logic.{_↔_, _⊎_, inl, inr}
-use mathlib.Core.Bool.{true, _&&_, and-eq-true-iff, and-assoc}
+use mathlib.Core.Bool.{true, false, _&&_, and-eq-true-iff, and-assoc}
 use mathlib.Core.List.{List, [], _∷_}
 use Prim.Native.Nat.{ℕ, zero, suc, _-_, _^_, _<_}
 use native.Mathlib.Nat.{zero-lt-suc}
 use native.Mathlib.Omega.{arith}
 use lib.Dec.{eqb}
 use lib.ListN.{length}
-use borrow.Author.Tests.{eqb-true}
+use borrow.Author.Tests.{eqb-true, ne-eqb}
 use Rattle.definitions.specs.Polynomial.{degree, quot, rem}
 use Rattle.definitions.specs.Number.{all}
 use Rattle.definitions.specs.Generator.{Expansion, found, expansion, linear, linearQuotients, Pair, expansionWithin}
-use Rattle.polynomial_laws.specs.Degree.{HasDegree, degree-is, degree-unique, degree-zero, degree-one}
+use Rattle.polynomial_laws.specs.Degree.{HasDegree, positive, degree-is, degree-unique, degree-most, degree-zero, degree-one}
 use Rattle.fraction_laws.specs.Expansion.{expansion-more, totalDegree, degrees-add, quotient-drop}
 use Rattle.fraction_laws.specs.WellFormed.{Proper, proper-degree, proper-positive}
 
@@ -101,8 +101,15 @@ found-linear a e = and-assoc (eqb (degree a) 1) (all linear (e .quotients)) (eqb
 pub linearQuotients-step : (p q : ℕ) → 0 < q → linearQuotients p q ≡ eqb (degree (quot p q)) 1 && linearQuotients q (rem p q)
 linearQuotients-step p q pos = simp (linearQuotients-def, expansion-more p q pos) (found-linear (quot p q) (expansion q (rem p q)))
 
--- the quotient's degree is known before it is divided
-pub linearQuotients-more : (p q : ℕ) → 0 < q → q < p → linearQuotients p q ≡ eqb (degree p - degree q) 1 && linearQuotients q (rem p q)
-linearQuotients-more p q pos h =
-    let d : degree (quot p q) ≡ degree p - degree q = omega (arith, quotient-drop p q pos h) in
-    rw (← d) (linearQuotients-step p q pos)
+-- the quotient's degree is the difference of the degrees: one, or more
+module _ {a b n : ℕ} (ha : HasDegree a (suc n)) where
+  pub linearQuotients-next : HasDegree b n → linearQuotients a b ≡ linearQuotients b (rem a b)
+  linearQuotients-next hb =
+      let d : degree (quot a b) ≡ 1 = omega (arith, quotient-drop a b (positive hb) (omega arith), degree-unique a (suc n) ha, degree-unique b n hb) in
+      linearQuotients-step a b (positive hb) ∙ rw d
+
+  pub linearQuotients-stop : 0 < b → b < 2 ^ n → linearQuotients a b ≡ false
+  linearQuotients-stop pos small =
+      let d : degree b < n = degree-most b n pos small in
+      linearQuotients-step a b pos
+      ∙ rw (ne-eqb (degree (quot a b)) 1 (λ e. omega (arith, quotient-drop a b pos (omega arith), degree-unique a (suc n) ha)))

@@ -9,11 +9,11 @@ use native.Mathlib.Omega.{arith}
 use lib.ListN.{length}
 use Rattle.definitions.specs.Polynomial.{_⊕_, degree, prod, quot, rem}
 use Rattle.definitions.specs.Generator.{Expansion, found, expansion, Pair, child}
-use Rattle.polynomial_laws.specs.Degree.{HasDegree, degree-unique, add-degree, positive}
-use Rattle.polynomial_laws.specs.Product.{quot-unique, rem-unique, one-prod}
-use Rattle.polynomial_laws.specs.ProductDegree.{product-degree}
+use Rattle.polynomial_laws.specs.Degree.{HasDegree, add-degree, positive}
+use Rattle.polynomial_laws.specs.Product.{one-prod, product-degree}
+use Rattle.polynomial_laws.specs.Division.{quot-unique, rem-unique}
 use Rattle.fraction_laws.specs.Expansion.{root, build, expansion-zero, expansion-child, expansion-built}
-use Rattle.fraction_laws.specs.WellFormed.{Proper, proper-degree, proper-positive, proper-smaller}
+use Rattle.fraction_laws.specs.WellFormed.{Proper, proper-positive, proper-smaller}
 use Rattle.fraction_laws.specs.Quotients.{Linear, none, one, LinearQuotients}
 
 -- Down the tree from s by the choices.
@@ -29,10 +29,10 @@ root-proper = record { degree-p = record { least = omega arith; most = omega ari
 pub child-proper : (m a : ℕ) (s : Pair) → HasDegree a 1 → Proper m s → Proper (suc m) (child a s)
 unfolding child
 child-proper m a s ha h =
-    let e : degree a + degree (s .p) ≡ suc m = omega (arith, degree-unique a 1 ha, proper-degree h) in
-    let k : HasDegree (prod a (s .p)) (suc m) = subst (HasDegree (prod a (s .p))) e (product-degree a (s .p) (positive ha) (proper-positive h)) in
+    let e : 1 + m ≡ suc m = omega arith in
+    let k : HasDegree (prod a (s .p)) (suc m) = rw e at (product-degree 1 ha (h .degree-p)) in
     record {
-      degree-p = add-degree (prod a (s .p)) (s .q) (suc m) k (omega (arith, h .smaller, pow-suc 2 m));
+      degree-p = add-degree k (omega (arith, h .smaller, pow-suc 2 m));
       smaller = omega (arith, h .degree-p .most, pow-suc 2 m);
     }
 

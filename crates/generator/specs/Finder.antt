@@ -11,7 +11,7 @@ use Rattle.definitions.specs.Polynomial.{rem}
 use Rattle.definitions.specs.Generator.{period, primitive, step}
 use Rattle.number_laws.specs.First.{first-before}
 use Rattle.polynomial_laws.specs.Degree.{degree-unique}
-use Rattle.polynomial_laws.specs.Division.{rem-small, rem-lt, timesX-rem}
+use Rattle.polynomial_laws.specs.Division.{rem-small}
 use Rattle.polynomial_laws.specs.Power.{rem-power-suc}
 use Rattle.fraction_laws.specs.WellFormed.{WellFormed}
 use Rattle.order_laws.specs.Cycle.{degree-big}
@@ -59,7 +59,6 @@ module _ (m p q : ℕ) (h : Lawful m) (w : WellFormed m p q) (t : primitive m p 
     is =
         k
         ∙ ap (λ (y : ℕ). rem (2 * y) p) (a .is)
-        ∙ sym (timesX-rem p (omega (arith, big)) (rem (2 ^ e) p) (rem-lt p (omega (arith, big)) (2 ^ e)))
         ∙ sym (rem-power-suc p big e)
         ∙ ap (λ (j : ℕ). rem (2 ^ j) p) (sym (add-one e));
   }

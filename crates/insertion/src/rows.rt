@@ -42,29 +42,29 @@ pub fn ranks_before(a: &[u32], i: usize, b: &[u32], j: usize, s: usize) -> bool
 }
 
 // Whether the row of `a` at `i` stands before the row of `b` at `j`, by their keys: by their t-values, and where these are the same by their pairs.
-pub fn stands_before(a: &[u32], i: usize, b: &[u32], j: usize, w: usize) -> bool
-    requires { ⌜ (3 < w) × (i + w ≤ length (now a)) × (j + w ≤ length (now b)) ⌝ }
-    ensures { λ r. ⌜ r ≡ before (rowKey (take w (drop i (now (a .entry))))) (rowKey (take w (drop j (now (b .entry))))) ⌝ }
+pub fn stands_before(a: &[u32], i: usize, b: &[u32], j: usize, width: usize) -> bool
+    requires { ⌜ (3 < width) × (i + width ≤ length (now a)) × (j + width ≤ length (now b)) ⌝ }
+    ensures { λ r. ⌜ r ≡ before (rowKey (take width (drop i (now (a .entry))))) (rowKey (take width (drop j (now (b .entry))))) ⌝ }
 {
-    if ranks_before(a, i, b, j, w) {
+    if ranks_before(a, i, b, j, width) {
         return true;
     }
-    if ranks_before(b, j, a, i, w) {
+    if ranks_before(b, j, a, i, width) {
         return false;
     }
     pair_before(a, i, b, j)
 }
 
-// The slot of `row` among the `n` rows kept in `out`, by halves.
-pub fn find_slot(out: &[u32], n: usize, w: usize, row: &[u32]) -> usize
-    requires { ⌜ (3 < w) × (w ≤ length (now row)) × (n * w ≤ length (now out)) × Ordered rowKey (rowsOf w n (now out)) ⌝ }
-    ensures { λ r. ⌜ r ≡ slot rowKey (take w (now (row .entry))) (rowsOf w n (now (out .entry))) ⌝ }
+// The slot of `row` among the `kept` rows at the front of `out`, by halves.
+pub fn find_slot(out: &[u32], kept: usize, width: usize, row: &[u32]) -> usize
+    requires { ⌜ (3 < width) × (width ≤ length (now row)) × (kept * width ≤ length (now out)) × Ordered rowKey (rowsOf width kept (now out)) ⌝ }
+    ensures { λ r. ⌜ r ≡ slot rowKey (take width (now (row .entry))) (rowsOf width kept (now (out .entry))) ⌝ }
 {
     let mut low: usize = 0;
-    let mut high = n;
+    let mut high = kept;
     while low < high {
         let mid = low + (high - low) / 2;
-        if stands_before(row, 0, out, mid * w, w) {
+        if stands_before(row, 0, out, mid * width, width) {
             high = mid;
         } else {
             low = mid + 1;
@@ -73,51 +73,58 @@ pub fn find_slot(out: &[u32], n: usize, w: usize, row: &[u32]) -> usize
     low
 }
 
-// Moves the numbers from `from` up to `to` up by `w`, the last first.
-fn shift(out: &mut [u32], from: usize, to: usize, w: usize)
-    requires { ⌜ (from ≤ to) × (to + w ≤ length (now out)) ⌝ }
-    ensures { λ _. ⌜ now (out .exit) ≡ shifted from to w (now (out .entry)) ⌝ }
+// Moves the numbers from `from` up to `to` up by `width`, the last first.
+fn shift(out: &mut [u32], from: usize, to: usize, width: usize)
+    requires { ⌜ (from ≤ to) × (to + width ≤ length (now out)) ⌝ }
+    ensures { λ _. ⌜ now (out .exit) ≡ shifted from to width (now (out .entry)) ⌝ }
 {
     let mut j = to;
     while from < j {
         j -= 1;
-        out[j + w] = out[j];
+        out[j + width] = out[j];
     }
 }
 
-// Writes the first `w` numbers of `row` at `base`.
-fn write_row(out: &mut [u32], base: usize, row: &[u32], w: usize)
-    requires { ⌜ (w ≤ length (now row)) × (base + w ≤ length (now out)) ⌝ }
-    ensures { λ _. ⌜ now (out .exit) ≡ paste (now (out .entry)) base (now (row .entry)) w ⌝ }
+// Writes the first `width` numbers of `row` at `base`.
+fn write_row(out: &mut [u32], base: usize, row: &[u32], width: usize)
+    requires { ⌜ (width ≤ length (now row)) × (base + width ≤ length (now out)) ⌝ }
+    ensures { λ _. ⌜ now (out .exit) ≡ paste (now (out .entry)) base (now (row .entry)) width ⌝ }
 {
     let mut i: usize = 0;
-    while i < w {
+    while i < width {
         out[base + i] = row[i];
         i += 1;
     }
 }
 
 // Puts `row` in at `from`, and moves what stands there up to `to` behind it.
-fn splice(out: &mut [u32], from: usize, to: usize, w: usize, row: &[u32])
-    requires { ⌜ (w ≤ length (now row)) × (from ≤ to) × (to + w ≤ length (now out)) ⌝ }
-    ensures { λ _. ⌜ now (out .exit) ≡ spliced from to w (take w (now (row .entry))) (now (out .entry)) ⌝ }
+fn splice(out: &mut [u32], from: usize, to: usize, width: usize, row: &[u32])
+    requires { ⌜ (width ≤ length (now row)) × (from ≤ to) × (to + width ≤ length (now out)) ⌝ }
+    ensures { λ _. ⌜ now (out .exit) ≡ spliced from to width (take width (now (row .entry))) (now (out .entry)) ⌝ }
 {
-    shift(out, from, to, w);
-    write_row(out, from, row, w);
+    shift(out, from, to, width);
+    write_row(out, from, row, width);
 }
 
-// Puts `row` in its slot among the `n` rows kept in `out`, of which at most `cap` stay, and answers how many are kept.
-pub fn insert_row(out: &mut [u32], n: usize, w: usize, cap: usize, at: usize, row: &[u32]) -> usize
-    requires { ⌜ (w ≤ length (now row)) × (n ≤ cap) × (cap * w ≤ length (now out)) ⌝ }
-    requires { ⌜ at ≡ slot rowKey (take w (now row)) (rowsOf w n (now out)) ⌝ }
-    ensures { λ r. ⌜ _≡_ {A = Kept} (record { out = now (out .exit); n = r }) (inserted rowKey w cap (take w (now (row .entry))) (record { out = now (out .entry); n = n })) ⌝ }
+// Puts `row` in its slot among the `kept` rows at the front of `out`, of which at most `capacity` stay, and answers how many rows are kept now.
+pub fn insert_row(
+    out: &mut [u32],
+    kept: usize,
+    width: usize,
+    capacity: usize,
+    at: usize,
+    row: &[u32],
+) -> usize
+    requires { ⌜ (width ≤ length (now row)) × (kept ≤ capacity) × (capacity * width ≤ length (now out)) ⌝ }
+    requires { ⌜ at ≡ slot rowKey (take width (now row)) (rowsOf width kept (now out)) ⌝ }
+    ensures { λ r. ⌜ _≡_ {A = Kept} (record { out = now (out .exit); n = r }) (inserted rowKey width capacity (take width (now (row .entry))) (record { out = now (out .entry); n = kept })) ⌝ }
 {
-    if n < cap {
-        splice(out, at * w, n * w, w, row);
-        return n + 1;
+    if kept < capacity {
+        splice(out, at * width, kept * width, width, row);
+        return kept + 1;
     }
-    if at < n {
-        splice(out, at * w, (n - 1) * w, w, row);
+    if at < kept {
+        splice(out, at * width, (kept - 1) * width, width, row);
     }
-    n
+    kept
 }

@@ -26,3 +26,8 @@ afterPair degree top p q = record { degree = degree; top = top; position = After
 pub same-values : {A : Type 0} (values : A → List ℕ) {given told defined : A} → given ≡ told → given ≡ defined
     → (i old : ℕ) → getD (values told) i old ≡ getD (values defined) i old
 same-values values e d i old = ap (λ a. getD (values a) i old) (sym e ∙ d)
+
+-- So an answer of one value crosses: the number returned and the number behind the pointer are those of the definition.
+pub value-crosses : {A : Type 0} (values : A → List ℕ) {given told defined : A} {r : ℕ} → given ≡ told → given ≡ defined → r ≡ returned (values told)
+    → (old : ℕ) → (r ≡ returned (values defined)) × (stored (values told) 1 old ≡ stored (values defined) 1 old)
+value-crosses values e d n old = (n ∙ same-values values e d 0 0, same-values values e d 1 old)

@@ -2,4 +2,3 @@
 pub mod Boundary
 pub mod Located
 pub mod Rows
-pub mod Unique

@@ -7,4 +7,3 @@ pub mod Line
 pub mod Words
 pub mod LongLine
 pub mod Printed
-pub mod Unique

@@ -1,5 +1,5 @@
 -- Laws that the proofs of several functions cite.
-pub mod Laws
-pub mod PowerLaws
+pub mod ArrayLaws
+pub mod SearchLaws
 pub mod ValueLaws
-pub mod UniformityLaws
+pub mod AnswerLaws

@@ -1,3 +1,3 @@
 -- What the contracts of this crate cite.
-pub mod Run
+pub mod Search
 pub mod Bound

@@ -3,7 +3,7 @@ use polynomial::residues::mul_mod;
 ghost use mathlib.Core.Path.{_≡_};
 ghost use Prim.Native.Nat.{_<_};
 ghost use Rattle.polynomial.specs.Modulus.{Modulus};
-ghost use Rattle.net.specs.Run.{Residues, Powers};
+ghost use Rattle.net.specs.Search.{Residues, Powers};
 
 // 1, q, .. q^7 modulo p, whose leading term is top.
 pub fn powers(p: u32, top: u32, q: u32) -> [u32; 8]

@@ -6,7 +6,7 @@ ghost use lib.ListN.{length};
 ghost use Rattle.polynomial.specs.Modulus.{Modulus};
 ghost use Rattle.net_laws.specs.Reduction.{reduce as reduceAll};
 ghost use Rattle.net_laws.specs.Size.{size as sizeOf};
-ghost use Rattle.net.specs.Run.{Residues, newest, Searched, Levelled};
+ghost use Rattle.net.specs.Search.{Residues, newest, Searched, Levelled};
 
 // How many binary digits v has.
 pub fn size(v: u32) -> usize

@@ -1,198 +1,109 @@
--- Reduction by comparison: v is reduced by b to the smaller of v and v ⊕ b, and by a list of vectors one after the other. No pivots are named.
--- 'b lowers v' reads the highest digit of b in v, so it is additive in v; hence so is reduction. It never raises, kills the rows it is made
--- of, and keeps every property that the rows have and that sums keep.
+-- Reduction by comparison: v is reduced by b to the smaller of v and v ⊕ b, and by a list of vectors one after the other, the oldest first.
+-- The smaller one is that without the digit at the degree of b, so reduction is additive. It never raises, it takes the rows that its vectors
+-- come from to 0, and an additive function that is 0 at these rows does not see it.
 -- Assumes nothing.
-use mathlib.Core.Path.{_≡_, refl, sym, ap, ap₂, _∙_, subst}
-use mathlib.Core.Bool.{Bool, true, false, cond}
-use mathlib.Core.List.{List, [], _∷_, _++_}
-use Prim.Native.Nat.{ℕ, zero, suc, _+_, _*_, _/_, _%_, _≤_, _<_}
+use mathlib.Core.Path.{_≡_, refl, sym, ap, ap₂, _∙_}
+use mathlib.Core.List.{List, [], _∷_}
+use Prim.Native.Nat.{ℕ, zero, suc, _+_, _*_, _/_, _%_, _^_, _≤_, _<_, min}
+use native.Mathlib.Nat.{zero-mul, one-mul, mul-zero, lt-of-not-le}
 use native.Mathlib.Omega.{arith}
-use lib.Arith.{bin-ind}
-use lib.Dec.{ltb}
-use borrow.Author.Tests.{ltb-true, lt-ltb, le-ltb}
-use Rattle.definitions.specs.Number.{bit}
-use Rattle.definitions.specs.Polynomial.{_⊕_}
-use Rattle.polynomial_laws.specs.Sum.{⊕-self, ⊕-zero, ⊕-assoc, ⊕-swap, ⊕-injective}
-use Rattle.net_laws.specs.Parity.{unlike, Linear, Additive, odd, odd-bit, ⊕-last, odd-⊕, half-⊕, digit-times, additive-zero}
+use native.Mathlib.Decide.{decLt}
+use lib.Bits.{xor-add-and, and-mask}
+use lib.Pow.{shr-mono}
+use Rattle.definitions.specs.Polynomial.{_⊕_, degree}
+use Rattle.polynomial_laws.specs.Digits.{Digit, off, on, lowest}
+use Rattle.polynomial_laws.specs.Sum.{⊕-def, ⊕-self, ⊕-zero, ⊕-shr, ⊕-swap, lowest-mul}
+use Rattle.polynomial_laws.specs.Degree.{degree-is, leading-one}
+use Rattle.net_laws.specs.Additive.{Additive}
 
 -- ---- definitions
 
--- b lowers v: adding b to v clears the highest digit of b in v
-unfoldable pub lowers : ℕ → ℕ → Bool
-lowers b v = ltb (v ⊕ b) v
-
--- the smaller of v and v + b
 unfoldable pub reduceBy : ℕ → ℕ → ℕ
-unfolding lowers
-reduceBy b v = cond (lowers b v) (v ⊕ b) v
+reduceBy b v = min v (v ⊕ b)
 
--- v reduced by a basis, the newest first: the oldest reduces first
+-- The vectors stand newest first.
 unfoldable pub reduce : List ℕ → ℕ → ℕ
-unfolding reduceBy
 reduce [] v = v
 reduce (b ∷ bs) v = reduceBy b (reduce bs v)
 
--- the basis of some rows, the newest first
+-- Of rows, newest first, the vectors that reduce: each row reduced by those older than it.
 unfoldable pub basis : List ℕ → List ℕ
-unfolding reduce
 basis [] = []
 basis (r ∷ rs) = reduce (basis rs) r ∷ basis rs
 
 abbrev pub reduced : List ℕ → ℕ → ℕ
 reduced rs = reduce (basis rs)
 
-pub bool-ext : (p q : Bool) → (p ≡ true → q ≡ true) → (q ≡ true → p ≡ true) → p ≡ q
-bool-ext true q f g = sym (f refl)
-bool-ext false true f g = g refl
-bool-ext false false f g = refl
+abbrev pub Each : (ℕ → Type 0) → List ℕ → Type 0
+Each Q [] = Unit {0}
+Each Q (r ∷ rs) = Q r × Each Q rs
 
--- ---- 'b lowers v' is linear in v
-⊕-same : (a b : ℕ) → a ⊕ b ≡ a → b ≡ 0
-⊕-same a b e = ⊕-injective a b 0 (e ∙ sym (⊕-zero a))
+pub each-map : (Q R : ℕ → Type 0) → ((r : ℕ) → Q r → R r) → (rs : List ℕ) → Each Q rs → Each R rs
+each-map Q R into [] all = tt
+each-map Q R into (r ∷ rs) all = (into r (all .0), each-map Q R into rs (all .1))
 
--- two numbers whose halves differ compare as their halves
-ltb-half : (a b : ℕ) → (a / 2 ≡ b / 2 → ⊥) → ltb a b ≡ ltb (a / 2) (b / 2)
-ltb-half a b ne =
-    bool-ext (ltb a b) (ltb (a / 2) (b / 2))
-    (λ e. lt-ltb (a / 2) (b / 2) (omega (arith, ltb-true a b e, ne)))
-    (λ e. lt-ltb a b (omega (arith, ltb-true (a / 2) (b / 2) e)))
-
-lowers-half : (b v : ℕ) → (b / 2 ≡ 0 → ⊥) → lowers b v ≡ lowers (b / 2) (v / 2)
-unfolding lowers
-lowers-half b v ne = ltb-half (v ⊕ b) v (λ e. ne (⊕-same (v / 2) (b / 2) (sym (half-⊕ v b) ∙ e))) ∙ ap (λ (x : ℕ). ltb x (v / 2)) (half-⊕ v b)
-
-lowers-zero : (v : ℕ) → lowers 0 v ≡ false
-unfolding lowers
-lowers-zero v = le-ltb (v ⊕ 0) v (omega (arith, ⊕-zero v))
-
-odd-one : odd 1 ≡ true
-unfolding odd
-odd-one = refl
-
-lowers-one : (v : ℕ) → lowers 1 v ≡ odd v
-unfolding lowers
-lowers-one v = go (odd v) (⊕-last v 1 ∙ ap₂ (λ (x : ℕ) (y : Bool). x * 2 + bit (unlike (odd v) y)) (⊕-zero (v / 2)) odd-one) (odd-bit v)
+pub min-either : (Q : ℕ → Type 0) (a b : ℕ) → Q a → Q b → Q (min a b)
+min-either Q a b at-a at-b = go (decLt a b)
   where
-    go : (c : Bool) → (v ⊕ 1) ≡ v / 2 * 2 + bit (unlike c true) → v % 2 ≡ bit c → ltb (v ⊕ 1) v ≡ c
-    go false x e = le-ltb (v ⊕ 1) v (omega arith)
-    go true x e = lt-ltb (v ⊕ 1) v (omega arith)
+    go : Dec (a < b) → Q (min a b)
+    go (yes l) = let e : min a b ≡ a = omega arith in rw e at-a
+    go (no l) = let e : min a b ≡ b = omega arith in rw e at-b
 
-pub lowers-linear : (b : ℕ) → Linear (lowers b)
-lowers-linear = bin-ind (λ (b : ℕ). Linear (lowers b)) (λ u v. simp lowers-zero) go
-  where
-    go : (b : ℕ) → Linear (lowers (b / 2)) → Linear (lowers b)
-    go zero ih u v = simp lowers-zero
-    go (suc zero) ih u v = rw (lowers-one (u ⊕ v), lowers-one u, lowers-one v) (odd-⊕ u v)
-    go (suc (suc b)) ih u v =
-        let ne : suc (suc b) / 2 ≡ 0 → ⊥ = λ z. omega arith in
-        rw (lowers-half (suc (suc b)) (u ⊕ v) ne, lowers-half (suc (suc b)) u ne, lowers-half (suc (suc b)) v ne, half-⊕ u v) (ih (u / 2) (v / 2))
+-- ---- one vector
+-- adding 1 turns the last digit
+⊕-one : (u : ℕ) → (u ⊕ 1) + 2 * (u % 2) ≡ u + 1
+⊕-one u = rw ⊕-def (omega (arith, xor-add-and u 1, and-mask u 1))
 
-pub lowers-self : (b : ℕ) → 0 < b → lowers b b ≡ true
-unfolding lowers
-lowers-self b l = lt-ltb (b ⊕ b) b (rw (⊕-self b) l)
-
--- ---- one step
-reduceBy-sum : (b v : ℕ) → reduceBy b v ≡ (v ⊕ (cond (lowers b v) b 0))
+-- the smaller one is that without the digit at the degree of b
+reduceBy-clears : (b v : ℕ) → reduceBy b v ≡ v ⊕ v / 2 ^ degree b % 2 * b
 unfolding reduceBy
-reduceBy-sum b v = go (lowers b v)
+reduceBy-clears zero v = simp (mul-zero, ⊕-zero) (omega arith)
+reduceBy-clears (suc b) v = go (lowest (v / 2 ^ k)) refl
   where
-    go : (c : Bool) → cond c (v ⊕ b) v ≡ (v ⊕ (cond c b 0))
-    go true = refl
-    go false = sym (⊕-zero v)
+    k : ℕ
+    k = degree (suc b)
 
-pub reduceBy-additive : (b : ℕ) → Additive (reduceBy b)
+    shift : (v ⊕ suc b) / 2 ^ k ≡ v / 2 ^ k ⊕ 1
+    shift = ⊕-shr v (suc b) k ∙ ap (λ (z : ℕ). v / 2 ^ k ⊕ z) (leading-one (degree-is (suc b) (omega arith)))
+
+    by-shift : (x y : ℕ) → x / 2 ^ k < y / 2 ^ k → x < y
+    by-shift x y l = lt-of-not-le λ (n : y ≤ x). omega (arith, shr-mono k n)
+
+    go : {c : ℕ} → Digit c → v / 2 ^ k % 2 ≡ c → min v (v ⊕ suc b) ≡ v ⊕ c * suc b
+    go off e = simp (zero-mul, ⊕-zero) (omega (arith, by-shift v (v ⊕ suc b) (omega (arith, shift, ⊕-one (v / 2 ^ k)))))
+    go on e = simp one-mul (omega (arith, by-shift (v ⊕ suc b) v (omega (arith, shift, ⊕-one (v / 2 ^ k)))))
+
+reduceBy-additive : (b : ℕ) → Additive (reduceBy b)
 reduceBy-additive b u v =
-    reduceBy-sum b (u ⊕ v) ∙ ap (λ (c : Bool). (u ⊕ v) ⊕ cond c b 0) (lowers-linear b u v) ∙ ap (λ (z : ℕ). (u ⊕ v) ⊕ z) (digit-times (lowers b u) (lowers b v) b)
-    ∙ ⊕-swap u v (cond (lowers b u) b 0) (cond (lowers b v) b 0) ∙ ap₂ _⊕_ (sym (reduceBy-sum b u)) (sym (reduceBy-sum b v))
+    let k = degree b in
+    rw (reduceBy-clears b (u ⊕ v), reduceBy-clears b u, reduceBy-clears b v, ⊕-shr u v k, lowest-mul (u / 2 ^ k) (v / 2 ^ k) b) (⊕-swap u v (u / 2 ^ k % 2 * b) (v / 2 ^ k % 2 * b))
 
-pub reduceBy-le : (b v : ℕ) → reduceBy b v ≤ v
-unfolding reduceBy lowers
-reduceBy-le b v = go (ltb (v ⊕ b) v) refl
-  where
-    go : (c : Bool) → ltb (v ⊕ b) v ≡ c → cond c (v ⊕ b) v ≤ v
-    go true e = omega (arith, ltb-true (v ⊕ b) v e)
-    go false e = omega arith
-
-pub reduceBy-self : (b : ℕ) → reduceBy b b ≡ 0
-unfolding reduceBy lowers _⊕_
-reduceBy-self zero = refl
-reduceBy-self (suc b) = rw (lowers-self (suc b) (omega arith)) (⊕-self (suc b))
-
--- ---- all steps
+-- ---- a list of vectors
 pub reduce-additive : (bs : List ℕ) → Additive (reduce bs)
 unfolding reduce
 reduce-additive [] u v = refl
 reduce-additive (b ∷ bs) u v = ap (reduceBy b) (reduce-additive bs u v) ∙ reduceBy-additive b (reduce bs u) (reduce bs v)
 
 pub reduce-le : (bs : List ℕ) (v : ℕ) → reduce bs v ≤ v
-unfolding reduce
+unfolding reduce reduceBy
 reduce-le [] v = omega arith
-reduce-le (b ∷ bs) v = omega (arith, reduceBy-le b (reduce bs v), reduce-le bs v)
+reduce-le (b ∷ bs) v = omega (arith, reduce-le bs v)
 
--- ---- every row has the property
-abbrev pub Each : {A : Type 0} → (A → Type 0) → List A → Type 0
-Each Q [] = Unit {0}
-Each Q (x ∷ xs) = Q x × Each Q xs
+-- ---- the vectors of rows
+pub reduced-rows : (rs : List ℕ) → Each (λ r. reduced rs r ≡ 0) rs
+unfolding basis reduce reduceBy
+reduced-rows [] = tt
+reduced-rows (r ∷ rs) =
+    let b = reduced rs r in
+    (omega (arith, ⊕-self b), each-map (λ x. reduced rs x ≡ 0) (λ x. min (reduced rs x) (reduced rs x ⊕ b) ≡ 0) (λ x e. omega arith) rs (reduced-rows rs))
 
-pub each-map : {A : Type 0} (Q R : A → Type 0) → ((x : A) → Q x → R x) → (xs : List A) → Each Q xs → Each R xs
-each-map Q R f [] q = tt
-each-map Q R f (x ∷ xs) q = (f x (q .0), each-map Q R f xs (q .1))
-
-pub each-both : {A : Type 0} (Q R S : A → Type 0) → ((x : A) → Q x → R x → S x) → (xs : List A) → Each Q xs → Each R xs → Each S xs
-each-both Q R S f [] q r = tt
-each-both Q R S f (x ∷ xs) q r = (f x (q .0) (r .0), each-both Q R S f xs (q .1) (r .1))
-
-pub each-append : {A : Type 0} (Q : A → Type 0) (xs ys : List A) → Each Q xs → Each Q ys → Each Q (xs ++ ys)
-each-append Q [] ys p q = q
-each-append Q (x ∷ xs) ys p q = (p .0, each-append Q xs ys (p .1) q)
-
--- what sums keep and the rows have, a number has just if its reduction has it
-module _ (Q : ℕ → Type 0) (closed : (a b : ℕ) → Q a → Q b → Q (a ⊕ b)) where
-  reduceBy-in : (b v : ℕ) → Q b → Q v → Q (reduceBy b v)
-  unfolding reduceBy
-  reduceBy-in b v p q = go (lowers b v)
-    where
-      go : (c : Bool) → Q (cond c (v ⊕ b) v)
-      go true = closed v b q p
-      go false = q
-
-  reduceBy-out : (b v : ℕ) → Q b → Q (reduceBy b v) → Q v
-  unfolding reduceBy
-  reduceBy-out b v p = go (lowers b v)
-    where
-      go : (c : Bool) → Q (cond c (v ⊕ b) v) → Q v
-      go true q = subst Q (⊕-assoc v b b ∙ ap (λ (z : ℕ). v ⊕ z) (⊕-self b) ∙ ⊕-zero v) (closed (v ⊕ b) b q p)
-      go false q = q
-
-  reduce-in : (bs : List ℕ) (v : ℕ) → Each Q bs → Q v → Q (reduce bs v)
-  unfolding reduce
-  reduce-in [] v p q = q
-  reduce-in (b ∷ bs) v p q = reduceBy-in b (reduce bs v) (p .0) (reduce-in bs v (p .1) q)
-
-  reduce-out : (bs : List ℕ) (v : ℕ) → Each Q bs → Q (reduce bs v) → Q v
-  unfolding reduce
-  reduce-out [] v p q = q
-  reduce-out (b ∷ bs) v p q = reduce-out bs v (p .1) (reduceBy-out b (reduce bs v) (p .0) q)
-
-  basis-in : (rs : List ℕ) → Each Q rs → Each Q (basis rs)
-  unfolding basis
-  basis-in [] p = tt
-  basis-in (r ∷ rs) p = (reduce-in (basis rs) r (basis-in rs (p .1)) (p .0), basis-in rs (p .1))
-
-  pub reduced-in : (rs : List ℕ) (v : ℕ) → Each Q rs → Q v → Q (reduced rs v)
-  reduced-in rs v p = reduce-in (basis rs) v (basis-in rs p)
-
-  pub reduced-out : (rs : List ℕ) (v : ℕ) → Each Q rs → Q (reduced rs v) → Q v
-  reduced-out rs v p = reduce-out (basis rs) v (basis-in rs p)
-
-pub reduced-zero : (rs : List ℕ) → reduced rs 0 ≡ 0
-reduced-zero rs = additive-zero (reduced rs) (reduce-additive (basis rs))
-
--- the rows themselves are reduced to 0
-pub reduced-kills : (rs : List ℕ) → Each (λ r. reduced rs r ≡ 0) rs
-unfolding basis reduce
-reduced-kills [] = tt
-reduced-kills (r ∷ rs) = (
-  reduceBy-self (reduced rs r),
-  each-map (λ x. reduced rs x ≡ 0) (λ x. reduceBy (reduced rs r) (reduced rs x) ≡ 0) (λ x e. rw e (additive-zero (reduceBy (reduced rs r)) (reduceBy-additive (reduced rs r)))) rs (reduced-kills rs),
-)
+-- the smaller one is v or v ⊕ b, and b is seen as 0
+pub reduced-unseen : (g : ℕ → ℕ) → Additive g → (rs : List ℕ) → Each (λ r. g r ≡ 0) rs → (v : ℕ) → g (reduced rs v) ≡ g v
+unfolding basis reduce reduceBy
+reduced-unseen g sums [] zeros v = refl
+reduced-unseen g sums (r ∷ rs) zeros v =
+    let b = reduced rs r in
+    let w = reduced rs v in
+    let same : g w ≡ g v = reduced-unseen g sums rs (zeros .1) v in
+    let none : g b ≡ 0 = reduced-unseen g sums rs (zeros .1) r ∙ zeros .0 in
+    min-either (λ x. g x ≡ g v) w (w ⊕ b) same (sums w b ∙ ap₂ _⊕_ same none ∙ ⊕-zero (g v))

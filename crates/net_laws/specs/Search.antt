@@ -1,167 +1,144 @@
--- The least weight of a relation, by a search that adds one row at a time and drops what cannot be lighter; for any rows G j i.
--- Two laws: the result is at most the weight of every relation that the search can come to (the same hypothesis justifies what it drops), and
--- whatever holds of the weight it begins with and of the weight of every relation holds of the result.
+-- The search for the least weight of rows that are not free, where rows weigh as much as they are many, and the powers of x with them. From rows
+-- taken so far it takes the next row of coordinate j, and all that can follow it, and then leaves coordinate j; it stops where all that can
+-- follow weighs as much as the least so far. So it never exceeds that, every rows that it can come to and that weigh less than its result
+-- are free, and its result is the weight that it began with or that of rows that are not free.
 -- Assumes nothing.
 use mathlib.Core.Path.{_≡_, refl, ap}
 use mathlib.Core.Logic.{_⊎_, inl, inr}
-use mathlib.Core.Bool.{Bool, true, false, _||_}
+use mathlib.Core.Bool.{cond}
 use mathlib.Core.List.{List, _∷_}
 use Prim.Native.Nat.{ℕ, zero, suc, _+_, _^_, _≤_, _<_, min}
+use native.Mathlib.Nat.{lt-of-not-le}
 use native.Mathlib.Omega.{arith}
 use native.Mathlib.Decide.{decLt}
 use lib.Dec.{ltb}
 use lib.ListN.{length}
-use borrow.Author.Tests.{ltb-true, ltb-false, lt-ltb}
-use Rattle.net_laws.specs.Reduction.{reduce, basis, reduced}
-use Rattle.net_laws.specs.Share.{depends}
+use borrow.Author.Tests.{lt-ltb, le-ltb}
+use Rattle.net_laws.specs.Reduction.{reduce, basis, reduced, min-either}
+use Rattle.net_laws.specs.Cell.{Free}
 use Rattle.net_laws.specs.Size.{size, size-le}
 
-pub either : (Q : ℕ → Type 0) (a b : ℕ) → Q a → Q b → Q (min a b)
-either Q a b p q = go (decLt a b)
-  where
-    go : Dec (a < b) → Q (min a b)
-    go (yes l) = let e : min a b ≡ a = omega arith in rw e p
-    go (no l) = let e : min a b ≡ b = omega arith in rw e q
+-- ---- the search
+-- `start j` is the first row of coordinate j and `next r` the row behind r; f is the fewest that rows to come can weigh, the next one counted.
+module _ (start next : ℕ → ℕ) (f : ℕ) where
+  -- r is the next row of coordinate j, bs the vectors of the e rows taken, W the least weight so far; at most n turns.
+  unfoldable pub search : ℕ → ℕ → ℕ → ℕ → List ℕ → ℕ → ℕ
+  search zero j r e bs W = W
+  search (suc n) zero r e bs W = W
+  search (suc n) (suc j) r e bs W =
+      let v = reduce bs r in
+      cond (ltb (e + f) W) (search n j (start j) e bs (search n (suc j) (next r) (suc e) (v ∷ bs) (min W (suc e + size v)))) W
 
+  module _ (n j r e : ℕ) (bs : List ℕ) (W : ℕ) where
+    pub search-stops : W ≤ e + f → search (suc n) (suc j) r e bs W ≡ W
+    unfolding search
+    search-stops l = rw (le-ltb (e + f) W l)
+
+    pub search-goes-on : e + f < W
+        → search (suc n) (suc j) r e bs W ≡ search n j (start j) e bs (search n (suc j) (next r) (suc e) (reduce bs r ∷ bs) (min W (suc e + size (reduce bs r))))
+    unfolding search
+    search-goes-on l = rw (lt-ltb (e + f) W l)
+
+-- ---- what it can come to
 module _ (G : ℕ → ℕ → ℕ) where
-  -- rows that a search from here can come to: a share of the coordinates up to j, of which j has d rows already
+  -- From rows rs, of which d are of coordinate j, to rows `all`: some more of j, and some of each coordinate below it down to 1.
   pub data Reach : ℕ → ℕ → List ℕ → List ℕ → Type 0 where
-    done : {d : ℕ} {rs : List ℕ} → Reach zero d rs rs
-    skip : {j d : ℕ} {rs all : List ℕ} → Reach j 0 rs all → Reach (suc j) d rs all
+    here : {rs : List ℕ} → Reach 0 0 rs rs
+    leave : {j d : ℕ} {rs all : List ℕ} → Reach j 0 rs all → Reach (suc j) d rs all
     take : {j d : ℕ} {rs all : List ℕ} → Reach (suc j) (suc d) (G (suc j) d ∷ rs) all → Reach (suc j) d rs all
 
-  pub here : (j d : ℕ) (rs : List ℕ) → Reach j d rs rs
-  here zero d rs = done
-  here (suc j) d rs = skip (here j 0 rs)
+  pub reach-same : (j : ℕ) {rs : List ℕ} → Reach j 0 rs rs
+  reach-same zero = here
+  reach-same (suc j) = leave (reach-same j)
 
-  longer : {j d : ℕ} {rs all : List ℕ} → Reach j d rs all → (all ≡ rs) ⊎ (length rs < length all)
-  longer done = inl refl
-  longer (skip x) = longer x
-  longer (take x) = inr (go (longer x))
+  reach-end : {d : ℕ} {rs all : List ℕ} → Reach 0 d rs all → all ≡ rs
+  reach-end here = refl
+
+  reach-longer : {j d : ℕ} {rs all : List ℕ} → Reach j d rs all → (all ≡ rs) ⊎ (length rs < length all)
+  reach-longer here = inl refl
+  reach-longer (leave x) = reach-longer x
+  reach-longer (take {j} {d} {rs} {all} x) = inr (go (reach-longer x))
     where
-      go : {r : ℕ} {rs all : List ℕ} → (all ≡ r ∷ rs) ⊎ (suc (length rs) < length all) → length rs < length all
+      go : (all ≡ G (suc j) d ∷ rs) ⊎ (suc (length rs) < length all) → length rs < length all
       go (inl e) = omega (arith, ap length e)
       go (inr l) = omega arith
 
-  -- W is no more than the weight of any relation among these rows and some powers
-  abbrev pub Covers : List ℕ → ℕ → Type 0
-  Covers rs W = (d : ℕ) → depends d rs ≡ true → W ≤ length rs + d
+  -- what rows of that weight would be
+  abbrev pub Lighter : ℕ → ℕ → List ℕ → ℕ → Type 0
+  Lighter j d rs W = (all : List ℕ) → Reach j d rs all → (c : ℕ) → length all + c < W → Free c all
 
-  or-cases : (a b : Bool) → (a || b) ≡ true → (a ≡ true) ⊎ (b ≡ true)
-  or-cases true b t = inl refl
-  or-cases false b t = inr t
+  module _ (f : ℕ) where
+    -- rows lighter than W with fewer than f - 1 powers are free, and so the bound f is right
+    abbrev pub Floor : ℕ → ℕ → List ℕ → ℕ → Type 0
+    Floor j d rs W = (all : List ℕ) → Reach j d rs all → (c : ℕ) → suc c < f → length all + c < W → Free c all
 
-  -- one more row
-  pub covers-more : (r : ℕ) (rs : List ℕ) (W : ℕ) → Covers rs W → Covers (r ∷ rs) (min W (suc (length rs) + size (reduced rs r)))
-  unfolding depends
-  covers-more r rs W cov d t = go (or-cases (ltb (reduced rs r) (2 ^ d)) (depends d rs) t)
-    where
-      go : (ltb (reduced rs r) (2 ^ d) ≡ true) ⊎ (depends d rs ≡ true) → min W (suc (length rs) + size (reduced rs r)) ≤ suc (length rs) + d
-      go (inl e) = omega (arith, size-le (reduced rs r) d .0 (ltb-true (reduced rs r) (2 ^ d) e))
-      go (inr e) = omega (arith, cov d e)
+    abbrev pub Covered : List ℕ → ℕ → Type 0
+    Covered rs W = (c : ℕ) → length rs + c < W → Free c rs
 
-  pub depends-now : (r : ℕ) (rs : List ℕ) → depends (size (reduced rs r)) (r ∷ rs) ≡ true
-  unfolding depends
-  depends-now r rs = let v = reduced rs r in ap (λ (b : Bool). b || depends (size v) rs) (lt-ltb v (2 ^ size v) (size-le v (size v) .1 (omega arith)))
+    pub covered-more : (r : ℕ) (rs : List ℕ) (W : ℕ) → Covered rs W → Covered (r ∷ rs) (min W (suc (length rs) + size (reduced rs r)))
+    unfolding Free
+    covered-more r rs W known c l =
+        (omega (arith, lt-of-not-le λ (b : suc (reduced rs r) ≤ 2 ^ c). omega (arith, size-le (reduced rs r) c .0 b)), known c (omega arith))
 
--- f: the fewest rows that a relation has beyond those chosen, the next one counted. 1 is always right.
-module _ (G : ℕ → ℕ → ℕ) (f : ℕ) where
-  -- bs: the basis of e rows chosen. The next row is row d of coordinate j: take it, then leave coordinate j. W is the best weight so far.
-  unfoldable pub search : ℕ → ℕ → ℕ → ℕ → List ℕ → ℕ → ℕ
-  unfolding reduce size
-  search zero j d e bs W = W
-  search (suc n) zero d e bs W = W
-  search (suc n) (suc j) d e bs W =
-      elim (ltb (e + f) W) [ false ↦ W | true ↦ search n j 0 e bs (search n (suc j) (suc d) (suc e) (reduce bs (G (suc j) d) ∷ bs) (min W (suc e + size (reduce bs (G (suc j) d))))) ]
+    pub record Best (j d : ℕ) (rs : List ℕ) (W w : ℕ) : Type 1 where
+      pub less : w ≤ W
+      pub lighter : Lighter j d rs w
+      pub from : (Q : ℕ → Type 0) → Q W → ((all : List ℕ) → Reach j d rs all → (c : ℕ) → (Free c all → ⊥) → Q (length all + c)) → Q w
 
-  -- the weight with row d of coordinate j taken, and with all that can follow it
-  abbrev taken : ℕ → ℕ → ℕ → ℕ → List ℕ → ℕ → ℕ
-  taken n j d e bs W = let v = reduce bs (G j d) in search n j (suc d) (suc e) (v ∷ bs) (min W (suc e + size v))
+    best-stop : (j d : ℕ) (rs : List ℕ) (W : ℕ) → W ≤ length rs + f → Covered rs W → Floor j d rs W → Best j d rs W W
+    best-stop j d rs W full known floor = record { less = omega arith; lighter = λ all x c l. go all x c l (reach-longer x); from = λ Q q hit. q }
+      where
+        go : (all : List ℕ) → Reach j d rs all → (c : ℕ) → length all + c < W → (all ≡ rs) ⊎ (length rs < length all) → Free c all
+        go all x c l (inl e) = rw e (known c (omega (arith, ap length e)))
+        go all x c l (inr b) = floor all x c (omega arith) l
 
-  search-on : (n j d e : ℕ) (bs : List ℕ) (W : ℕ) → ltb (e + f) W ≡ true → search (suc n) (suc j) d e bs W ≡ search n j 0 e bs (taken n (suc j) d e bs W)
-  unfolding search
-  search-on n j d e bs W t = rw (t, search)
+    -- the least weight so far, once row d of coordinate j is taken
+    abbrev withRow : ℕ → ℕ → List ℕ → ℕ → ℕ
+    withRow j d rs W = min W (suc (length rs) + size (reduced rs (G j d)))
 
-  search-off : (n j d e : ℕ) (bs : List ℕ) (W : ℕ) → ltb (e + f) W ≡ false → search (suc n) (suc j) d e bs W ≡ W
-  unfolding search
-  search-off n j d e bs W t = rw (t, search)
+    -- row d of coordinate j is taken, and then the coordinate is left
+    best-turn : (j d : ℕ) (rs : List ℕ) (W W₁ w : ℕ) → Best (suc j) (suc d) (G (suc j) d ∷ rs) (withRow (suc j) d rs W) W₁ → Best j 0 rs W₁ w
+        → Best (suc j) d rs W w
+    unfolding Free
+    best-turn j d rs W W₁ w taken left = record {
+      less = omega (arith, taken .less, left .less);
+      lighter = lighter taken left;
+      from = λ Q q hit.
+          left .from Q (taken .from Q (min-either Q W _ q (hit _ (take (leave (reach-same j))) (size v) (λ free. omega (arith, size-le v (size v) .1 (omega arith), free .0))))
+          (λ all x. hit all (take x))) (λ all x. hit all (leave x));
+    }
+      where
+        v : ℕ
+        v = reduced rs (G (suc j) d)
 
-  pub search-le : (n j d e : ℕ) (bs : List ℕ) (W : ℕ) → search n j d e bs W ≤ W
-  unfolding search
-  search-le zero j d e bs W = omega arith
-  search-le (suc n) zero d e bs W = omega arith
-  search-le (suc n) (suc j) d e bs W =
-      go (ltb (e + f) W) refl (search-le n (suc j) (suc d) (suc e) (reduce bs (G (suc j) d) ∷ bs) (min W (suc e + size (reduce bs (G (suc j) d))))) (search-le n j 0 e bs (taken n (suc j) d e bs W))
-    where
-      go : (b : Bool) → ltb (e + f) W ≡ b → taken n (suc j) d e bs W ≤ min W (suc e + size (reduce bs (G (suc j) d)))
-          → search n j 0 e bs (taken n (suc j) d e bs W) ≤ taken n (suc j) d e bs W → search (suc n) (suc j) d e bs W ≤ W
-      go true t p q = rw (search-on n j d e bs W t) (omega arith)
-      go false t p q = rw (search-off n j d e bs W t) (omega arith)
+        lighter : Best (suc j) (suc d) (G (suc j) d ∷ rs) (withRow (suc j) d rs W) W₁ → Best j 0 rs W₁ w → Lighter (suc j) d rs w
+        lighter taken left all (leave x) = left .lighter all x
+        lighter taken left all (take x) = λ c l. taken .lighter all x c (omega (arith, left .less))
 
-  -- a relation has f - 1 powers at least, or is covered by W anyway
-  abbrev pub Floor : ℕ → ℕ → List ℕ → ℕ → Type 0
-  Floor j d rs W = (all : List ℕ) → Reach G j d rs all → (c : ℕ) → depends c all ≡ true → (f ≤ suc c) ⊎ (W ≤ length all + c)
+    module _ (start next : ℕ → ℕ) (behind : (j d : ℕ) → next (G j d) ≡ G j (suc d)) (m : ℕ) where
+      abbrev found : ℕ → ℕ → ℕ → List ℕ → ℕ → ℕ
+      found n j d rs W = search start next f n j (G j d) (length rs) (basis rs) W
 
-  -- nothing lighter is left out where no smaller weight is possible
-  pruned : (j d : ℕ) (rs : List ℕ) (W : ℕ) → Covers G rs W → Floor j d rs W → W ≤ length rs + f → {all : List ℕ} → Reach G j d rs all → (c : ℕ)
-      → depends c all ≡ true → W ≤ length all + c
-  pruned j d rs W cov low l {all} x c t = go (longer G x) (low all x c t)
-    where
-      go : (all ≡ rs) ⊎ (length rs < length all) → (f ≤ suc c) ⊎ (W ≤ length all + c) → W ≤ length all + c
-      go (inl e) u = rw e (cov c (rw e at t))
-      go (inr k) (inl u) = omega arith
-      go (inr k) (inr u) = u
-
-  pub lower : (j d i n : ℕ) (rs ss : List ℕ) (W U : ℕ) → Floor j d rs W → U ≤ W → ((all : List ℕ) → Reach G i n ss all → Reach G j d rs all) → Floor i n ss U
-  lower j d i n rs ss W U low l into all x c t = go (low all (into all x) c t)
-    where
-      go : (f ≤ suc c) ⊎ (W ≤ length all + c) → (f ≤ suc c) ⊎ (U ≤ length all + c)
-      go (inl u) = inl u
-      go (inr u) = inr (omega arith)
-
-  -- one turn: by what is found where it goes on, or by what is known where it stops
-  turn : (n j d e : ℕ) (bs : List ℕ) (W : ℕ) (Q : ℕ → Type 0) → (ltb (e + f) W ≡ true → Q (search n j 0 e bs (taken n (suc j) d e bs W))) → (W ≤ e + f → Q W)
-      → Q (search (suc n) (suc j) d e bs W)
-  turn n j d e bs W Q on off = go (ltb (e + f) W) refl
-    where
-      go : (b : Bool) → ltb (e + f) W ≡ b → Q (search (suc n) (suc j) d e bs W)
-      go true t = rw (search-on n j d e bs W t) (on t)
-      go false t = rw (search-off n j d e bs W t) (off (ltb-false (e + f) W t))
-
-  taken-le : (n j d e : ℕ) (bs : List ℕ) (W : ℕ) → taken n j d e bs W ≤ W
-  taken-le n j d e bs W = omega (arith, search-le n j (suc d) (suc e) (reduce bs (G j d) ∷ bs) (min W (suc e + size (reduce bs (G j d)))))
-
-  -- the result is no more than the weight of any relation that the search can come to
-  pub search-all : (m n j d : ℕ) (rs : List ℕ) (W : ℕ) → W ≤ suc m → j + suc m ≤ n + length rs → Covers G rs W → Floor j d rs W
-      → {all : List ℕ} → Reach G j d rs all → (c : ℕ) → depends c all ≡ true → search n j d (length rs) (basis rs) W ≤ length all + c
-  unfolding search basis
-  search-all m zero j d rs W most fuel cov low x c t = pruned j d rs W cov low (omega arith) x c t
-  search-all m (suc n) zero d rs W most fuel cov low done c t = cov c t
-  search-all m (suc n) (suc j) d rs W most fuel cov low {all} (skip x) c t =
-      let less = taken-le n (suc j) d (length rs) (basis rs) W in
-      turn n j d (length rs) (basis rs) W (λ w. w ≤ length all + c)
-      (λ on. search-all m n j 0 rs (taken n (suc j) d (length rs) (basis rs) W) (omega arith) (omega arith) (λ k u. omega (arith, cov k u)) (lower (suc j) d j 0 rs rs W _ low less (λ all x. skip x)) x c t)
-      (λ l. pruned (suc j) d rs W cov low l (skip x) c t)
-  search-all m (suc n) (suc j) d rs W most fuel cov low {all} (take x) c t =
-      let r = G (suc j) d in
-      let ih = search-all m n (suc j) (suc d) (r ∷ rs) (min W (suc (length rs) + size (reduced rs r))) (omega arith) (omega arith) (covers-more G r rs W cov) (lower (suc j) d (suc j) (suc d) rs (r ∷ rs) W _ low (omega arith) (λ all x. take x)) x c t in
-      turn n j d (length rs) (basis rs) W (λ w. w ≤ length all + c)
-      (λ on. omega (arith, ih, search-le n j 0 (length rs) (basis rs) (taken n (suc j) d (length rs) (basis rs) W)))
-      (λ l. pruned (suc j) d rs W cov low l (take x) c t)
-
-  -- the result is the W that it began with or the weight of a relation
-  pub search-from : (Q : ℕ → Type 0) (n j d : ℕ) (rs : List ℕ) (W : ℕ) → Q W
-      → ((all : List ℕ) → Reach G j d rs all → (c : ℕ) → depends c all ≡ true → Q (length all + c))
-      → Q (search n j d (length rs) (basis rs) W)
-  unfolding search basis
-  search-from Q zero j d rs W q hit = q
-  search-from Q (suc n) zero d rs W q hit = q
-  search-from Q (suc n) (suc j) d rs W q hit =
-      let r = G (suc j) d in
-      let v = reduced rs r in
-      let this : Q (suc (length rs) + size v) = hit (r ∷ rs) (take (here G (suc j) (suc d) (r ∷ rs))) (size v) (depends-now G r rs) in
-      turn n j d (length rs) (basis rs) W Q
-      (λ on. search-from Q n j 0 rs (taken n (suc j) d (length rs) (basis rs) W)
-      (search-from Q n (suc j) (suc d) (r ∷ rs) (min W (suc (length rs) + size v)) (either Q W (suc (length rs) + size v) q this) (λ all x c t. hit all (take x) c t))
-      (λ all x c t. hit all (skip x) c t))
-      (λ l. q)
+      pub search-best : (n j d : ℕ) (rs : List ℕ) (W : ℕ) → ((i : ℕ) → i < j → start i ≡ G i 0) → W ≤ suc m → j + suc m ≤ n + length rs
+          → Covered rs W → Floor j d rs W → Best j d rs W (search start next f n j (G j d) (length rs) (basis rs) W)
+      unfolding search basis
+      search-best zero j d rs W starts most fuel known floor = best-stop j d rs W (omega arith) known floor
+      search-best (suc n) zero d rs W starts most fuel known floor = record {
+        less = omega arith;
+        lighter = λ all x c l. let e = reach-end x in rw e (known c (omega (arith, ap length e)));
+        from = λ Q q hit. q;
+      }
+      search-best (suc n) (suc j) d rs W starts most fuel known floor =
+          let r = G (suc j) d in
+          let W₁ = found n (suc j) (suc d) (r ∷ rs) (withRow (suc j) d rs W) in
+          let taken = search-best n (suc j) (suc d) (r ∷ rs) (withRow (suc j) d rs W) starts (omega arith) (omega arith) (covered-more r rs W known)
+          (λ all x c b l. floor all (take x) c b (omega arith)) in
+          let less : W₁ ≤ W = omega (arith, taken .less) in
+          let left = search-best n j 0 rs W₁ (λ i b. starts i (omega arith)) (omega arith) (omega arith) (λ c l. known c (omega arith))
+          (λ all x c b l. floor all (leave x) c b (omega arith)) in
+          go (decLt (length rs + f) W) (best-turn j d rs W W₁ (found n j 0 rs W₁) taken left)
+        where
+          go : Dec (length rs + f < W) → Best (suc j) d rs W (found n j 0 rs (found n (suc j) (suc d) (G (suc j) d ∷ rs) (withRow (suc j) d rs W)))
+              → Best (suc j) d rs W (found (suc n) (suc j) d rs W)
+          go (no l) turn = rw (le-ltb (length rs + f) W (omega arith)) (best-stop (suc j) d rs W (omega arith) known floor)
+          go (yes l) turn = rw (lt-ltb (length rs + f) W l, behind (suc j) d, starts j (omega arith)) turn

@@ -1,73 +1,80 @@
--- The t-value of a pair: for p of degree m, any q and s ≥ 1, t(s) = m + 1 - w(s), where w(s) is the least weight of a relation among the rows
--- of s coordinates, at most m + 1. So t(1) = 0, t(s) never falls as s grows, and t(s) ≤ m. The search finds w(s) with the stop bound 1 for every
--- pair, and with 2 where q has an inverse modulo p.
+-- The t-value of a pair is m + 1 less the least weight w: with m - t digits all shares are free just where m - t < w, since rows that are not free
+-- stay so with more powers of x. So each level of the search takes m + 1 - t(s) to m + 1 - t(s + 1), with the bound 1 for every pair, and
+-- with 2 where q has an inverse modulo p; and t(1) = 0.
 -- Assumes nothing.
-use mathlib.Core.Path.{_≡_, ap, _∙_, subst}
+use mathlib.Core.Path.{_≡_, sym, ap, _∙_, subst}
 use mathlib.Core.Logic.{_↔_}
-use mathlib.Core.Bool.{true}
-use Prim.Native.Nat.{ℕ, suc, _-_, _^_, _≤_, _<_}
+use mathlib.Core.List.{List, [], _∷_}
+use Prim.Native.Nat.{ℕ, suc, _+_, _-_, _*_, _^_, _≤_, _<_}
+use native.Mathlib.Nat.{pow-succ', lt-of-not-le}
 use native.Mathlib.Omega.{arith}
-use lib.Pow.{pow-pos}
-use Rattle.definitions.specs.Polynomial.{degree, prod, rem}
-use Rattle.definitions.specs.Net.{isNet, tValue}
-use Rattle.polynomial_laws.specs.Degree.{HasDegree, degree-unique}
-use Rattle.number_laws.specs.First.{first-to}
-use Rattle.net_laws.specs.Net.{NetOf, isNet-net, net-netOf, pointDigits}
-use Rattle.net_laws.specs.Weight.{weight, weight-one, weight-suc, level-le, Sound, sound-one, weight-least}
-use Rattle.net_laws.specs.Value.{LeastShare, first-least, least-share}
-use Rattle.net_laws.specs.Dual.{digitRow, digitRow-lt, digitRow-power, point-digits, image, image-count}
-use Rattle.net_laws.specs.Inverse.{sound-inverse}
+use lib.ListN.{length}
+use lib.Pow.{pow-mono}
+use Rattle.definitions.specs.Polynomial.{degree, prod, power, rem}
+use Rattle.definitions.specs.Net.{tValue}
+use Rattle.polynomial_laws.specs.Degree.{HasDegree, degree-unique, positive}
+use Rattle.net_laws.specs.Cell.{Free}
+use Rattle.net_laws.specs.Net.{Net}
+use Rattle.net_laws.specs.Smallest.{tValue-smallest}
+use Rattle.net_laws.specs.Share.{digitRow, digitRow-suc, rowsOf, length-rowsOf, net-free}
+use Rattle.net_laws.specs.Weight.{level, AllFree, Least, Sound, sound-one, least-zero, least-unique, level-least, share-reach, reach-share}
+use Rattle.net_laws.specs.Inverse.{sound-two}
 
-netTest : (m p q j t : ℕ) → (isNet m p q (suc j) t ≡ true) ↔ NetOf (pointDigits p q) m (suc j) t
-netTest m p q j t = (
-  λ e. net-netOf m p q (suc j) t .0 (isNet-net m p q (suc j) t .0 e),
-  λ n. isNet-net m p q (suc j) t .1 (net-netOf m p q (suc j) t .1 n),
-)
+free-fewer : (c d : ℕ) (rs : List ℕ) → c ≤ d → Free d rs → Free c rs
+unfolding Free
+free-fewer c d [] l free = tt
+free-fewer c d (r ∷ rs) l free = (omega (arith, pow-mono l, free .0), free-fewer c d rs l (free .1))
 
--- A bound at which the search may stop.
+-- A bound that the search may count on.
 abbrev pub StopBound : ℕ → ℕ → ℕ → ℕ → Type 0
 StopBound m p q f = Sound (digitRow p q) m f
 
-module _ (m p : ℕ) (of : HasDegree p m) where
-  positive : 0 < p
-  positive = omega (arith, pow-pos m, of .least)
+module _ (m p : ℕ) (of : HasDegree p m) (q : ℕ) where
+  abbrev rows : ℕ → ℕ → ℕ
+  rows = digitRow p q
 
-  same : degree p ≡ m
-  same = degree-unique p m of
-
-  pub tValue-least : (q j W : ℕ) → LeastShare (digitRow p q) m j W → tValue m p q (suc j) ≡ suc m - W
-  unfolding tValue
-  tValue-least q j W = subst (λ (m : ℕ). LeastShare (digitRow p q) m j W → tValue m p q (suc j) ≡ suc m - W) same at
+  net-allFree : (j t : ℕ) → t ≤ m → Net m p q (suc j) t ↔ AllFree rows j (m - t)
+  net-allFree j t = subst (λ (m : ℕ). t ≤ m → Net m p q (suc j) t ↔ AllFree rows j (m - t)) (degree-unique p m of) (λ le. (out le, back le))
     where
-      at : LeastShare (digitRow p q) (degree p) j W → tValue (degree p) p q (suc j) ≡ suc (degree p) - W
-      at L =
-          first-least (degree p) (pointDigits p q) (digitRow p q) (image p) (λ h l. point-digits p positive q h) (image-count p positive)
-          (digitRow-lt p positive q) (digitRow-power p positive q) j W L (isNet (degree p) p q (suc j)) (netTest (degree p) p q j)
+      out : t ≤ degree p → Net (degree p) p q (suc j) t → AllFree rows j (degree p - t)
+      out le net all x c sum =
+          let share = reach-share rows x in
+          rw (share .2) (net-free p (positive of) q j t le .0 net c (share .0) (share .1) (omega (arith, ap length (share .2), length-rowsOf rows 1 (share .0))))
 
-  weight-leastShare : (q f room j : ℕ) → m ≤ room → StopBound m p q f → LeastShare (digitRow p q) m j (weight (digitRow p q) f room m j)
-  weight-leastShare q f room j fits low =
-      least-share (digitRow p q) m (subst (λ (m : ℕ). (i : ℕ) → i < m → digitRow p q 0 i ≡ 2 ^ i) same (digitRow-power p positive q))
-      j (weight (digitRow p q) f room m j) (weight-least (digitRow p q) m f room fits low j)
+      back : t ≤ degree p → AllFree rows j (degree p - t) → Net (degree p) p q (suc j) t
+      back le free =
+          net-free p (positive of) q j t le .1 (λ d ds len sum. free (rowsOf rows 1 ds) (share-reach rows j ds len) d (omega (arith, length-rowsOf rows 1 ds)))
 
-  pub tValue-weight : (q f room j : ℕ) → m ≤ room → StopBound m p q f → tValue m p q (suc j) ≡ suc m - weight (digitRow p q) f room m j
-  tValue-weight q f room j fits low = tValue-least q j (weight (digitRow p q) f room m j) (weight-leastShare q f room j fits low)
+  -- ---- the least weight and the t-value tell each other
+  least-tValue : (j : ℕ) → Least rows m j (suc m - tValue m p q (suc j))
+  least-tValue j =
+      let t = tValue m p q (suc j) in
+      let S = tValue-smallest m p q (suc j) (positive of) in
+      record {
+        most = omega arith;
+        lighter = λ all x c l. free-fewer c (m - t - length all) all (omega arith) (net-allFree j t (S .most) .0 (S .net) all x (m - t - length all) (omega arith));
+        some = λ l free.
+            let e : suc m - t ≡ m - (t - 1) = omega arith in
+            omega (arith, S .least (t - 1) (net-allFree j (t - 1) (omega (arith, S .most)) .1 (rw e at free)));
+      }
 
-  pub stop-one : (q : ℕ) → StopBound m p q 1
-  stop-one q = sound-one (digitRow p q) m
+  tValue-least : (j W : ℕ) → Least rows m j W → W ≡ suc m - tValue m p q (suc j)
+  tValue-least j W least = least-unique rows m j W (suc m - tValue m p q (suc j)) least (least-tValue j)
 
-  pub stop-two : (q r : ℕ) → rem (prod r q) p ≡ rem 1 p → StopBound m p q 2
-  stop-two q r inverse = subst (λ (m : ℕ). Sound (digitRow p q) m 2) same (sound-inverse p positive q r inverse)
+  pub tValue-most : (s : ℕ) → tValue m p q s ≤ m
+  tValue-most s = tValue-smallest m p q s (positive of) .most
 
-  pub tValue-first : (q : ℕ) → tValue m p q 1 ≡ 0
-  tValue-first q = tValue-weight q 1 m 0 (omega arith) (stop-one q) ∙ ap (λ (w : ℕ). suc m - w) (weight-one (digitRow p q) 1 m m) ∙ omega arith
+  pub tValue-first : tValue m p q 1 ≡ 0
+  tValue-first = omega (arith, tValue-least 0 (suc m) (least-zero rows m), tValue-most 1)
 
-  pub tValue-grows : (q j : ℕ) → tValue m p q (suc j) ≤ tValue m p q (suc (suc j))
-  tValue-grows q j =
-      let a = tValue-weight q 1 m j (omega arith) (stop-one q) in
-      let b = tValue-weight q 1 m (suc j) (omega arith) (stop-one q) in
-      let w = weight (digitRow p q) 1 m m j in
-      omega (arith, weight-suc (digitRow p q) 1 m m j, level-le (digitRow p q) 1 m (suc j) w)
+  -- ---- the search
+  pub stop-one : StopBound m p q 1
+  stop-one = sound-one rows m
 
-pub tValue-most : (m p q s : ℕ) → tValue m p q s ≤ m
-unfolding tValue
-tValue-most m p q s = omega (arith, first-to m 0 (isNet m p q s))
+  pub stop-two : (r : ℕ) → rem (prod r q) p ≡ rem 1 p → StopBound m p q 2
+  stop-two r inverse = rw (degree-unique p m of) at (sound-two p (positive of) q r inverse)
+
+  pub level-tValue : (start : ℕ → ℕ) (f room j W : ℕ) → m ≤ room → StopBound m p q f → ((i : ℕ) → i < suc (suc j) → start i ≡ digitRow p q i 0)
+      → W ≡ suc m - tValue m p q (suc j) → level start (λ r. rem (2 * r) p) f room (suc j) W ≡ suc m - tValue m p q (suc (suc j))
+  level-tValue start f room j W fits sound starts e =
+      tValue-least (suc j) _ (level-least rows m start (λ r. rem (2 * r) p) (λ j d. sym (digitRow-suc p (positive of) q j d)) f room fits sound j W starts (rw e (least-tValue j)))

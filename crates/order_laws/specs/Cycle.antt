@@ -13,8 +13,8 @@ use Rattle.definitions.specs.Polynomial.{degree, rem}
 use Rattle.definitions.specs.Generator.{period, primitive}
 use Rattle.number_laws.specs.Pigeon.{Permutes, pigeonhole}
 use Rattle.polynomial_laws.specs.Degree.{HasDegree, degree-unique}
-use Rattle.polynomial_laws.specs.Division.{rem-lt, rem-zero}
 use Rattle.polynomial_laws.specs.Product.{zero-prod}
+use Rattle.polynomial_laws.specs.Division.{rem-lt, rem-zero}
 use Rattle.polynomial_laws.specs.Power.{rem-one, rem-power-add}
 use Rattle.order_laws.specs.Powers.{Returns, IsOrder, returns-add, returns-mul}
 use Rattle.order_laws.specs.Primitive.{primitive-order}

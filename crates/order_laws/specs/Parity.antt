@@ -1,114 +1,83 @@
--- Two polynomials that are never primitive: even ones, modulo which no power of x is 1, and from degree 2 on those with an even number of ones.
--- The parity of the ones is the value at x = 1, so it is additive and multiplicative; modulo such a p every power of x keeps the value 1, and x + 1 has 0.
--- Assumes nothing.
-use mathlib.Core.Path.{_≡_, refl, sym, ap, ap₂, _∙_}
+-- Polynomials that are never primitive: even ones, which have the factor x, and those with an even number of ones, which have the factor x + 1.
+-- What p leaves keeps its remainder by a factor of p. By x every power from x on leaves 0, and 1 leaves 1; by x + 1 every power leaves 1, and
+-- x + 1 itself leaves 0, though modulo a primitive p it is a power. Assumes nothing.
+use mathlib.Core.Path.{_≡_, refl, sym, ap, _∙_}
 use mathlib.Core.Bool.{false}
-use Prim.Native.Nat.{ℕ, zero, suc, _+_, _-_, _*_, _/_, _%_, _^_, _≤_, _<_}
-use native.Mathlib.Nat.{pow-succ', add-zero, zero-mul, mul-zero, mod-lt, one-mul}
+use Prim.Native.Nat.{ℕ, zero, suc, _+_, _*_, _/_, _%_, _^_, _≤_, _<_}
+use native.Mathlib.Nat.{one-mul, pow-succ'}
 use native.Mathlib.Omega.{arith}
 use lib.Count.{ones, ones-step}
 use lib.Pow.{pow-mono}
-use Rattle.definitions.specs.Polynomial.{_⊕_, degree, rem, quot, prod}
+use Rattle.definitions.specs.Polynomial.{_⊕_, rem, prod}
 use Rattle.definitions.specs.Generator.{period, primitive}
 use Rattle.number_laws.specs.Truth.{truth-false}
-use Rattle.polynomial_laws.specs.Sum.{digit-ind, by-digit, digit-cases, ⊕-digit, ⊕-bit, ⊕-zero, zero-⊕, ⊕-swap, ⊕-mul-digit, digit-⊕}
-use Rattle.polynomial_laws.specs.Degree.{HasDegree}
-use Rattle.polynomial_laws.specs.Product.{zero-prod, prod-digit, prod-double, division}
+use Rattle.polynomial_laws.specs.Digits.{Digit, off, on, lowest, half-ind}
+use Rattle.polynomial_laws.specs.Sum.{zero-⊕, ⊕-sums, halves}
+use Rattle.polynomial_laws.specs.Degree.{HasDegree, positive}
+use Rattle.polynomial_laws.specs.Product.{prod-half, one-prod, two-prod, prod-comm}
+use Rattle.polynomial_laws.specs.Division.{rem-zero, rem-⊕, rem-multiple, rem-of-factor}
+use Rattle.polynomial_laws.specs.Power.{rem-one}
 use Rattle.order_laws.specs.Powers.{IsOrder}
 use Rattle.order_laws.specs.Primitive.{primitive-order}
-use Rattle.order_laws.specs.Cycle.{full-cycle, degree-big, PowerOf}
+use Rattle.order_laws.specs.Cycle.{full-cycle, PowerOf}
 
+-- ---- the factor x
+by-x-none : (a : ℕ) → rem (2 * a) 2 ≡ 0
+by-x-none a = rw (prod-comm a 2, two-prod) at (rem-multiple 2 (omega arith) a)
+
+pub even-not-primitive : (m p : ℕ) → 1 ≤ m → 0 < p → p % 2 ≡ 0 → primitive m p ≡ false
+even-not-primitive m p h pos even = truth-false (primitive m p) (λ t. clash (period m) (primitive-order m p h t))
+  where
+    factor : rem p 2 ≡ 0
+    factor =
+        let twice : p ≡ 2 * (p / 2) = omega arith in
+        ap (λ n. rem n 2) twice ∙ by-x-none (p / 2)
+
+    clash : (N : ℕ) → IsOrder p N → ⊥
+    clash zero o = omega (arith, o .positive)
+    clash (suc n) o =
+        let left : rem 1 2 ≡ rem (2 * 2 ^ n) 2 =
+        ap (λ r. rem r 2) (sym (o .holds)) ∙ rem-of-factor 2 p (omega arith) pos factor (2 ^ suc n) ∙ rw pow-succ' in
+        omega (arith, left, by-x-none (2 ^ n), rem-one 2 (omega arith))
+
+-- ---- the factor x + 1
 -- The parity of the number of ones.
 abbrev pub parity : ℕ → ℕ
 parity a = ones a % 2
 
-pub parity-bit : (a : ℕ) → parity a < 2
-parity-bit a = mod-lt (ones a) (omega arith)
+-- x = (x + 1) + 1
+by-other-double : (a : ℕ) → rem (2 * a) 3 ≡ rem a 3
+by-other-double a =
+    let split : prod a 3 ⊕ a ≡ 2 * a = rw (prod-comm a 3, prod-half 3 a, one-prod, one-mul) (simp ⊕-sums) in
+    ap (λ n. rem n 3) (sym split) ∙ rw (rem-⊕ 3 (omega arith), rem-multiple 3 (omega arith), zero-⊕)
 
-flip : (b : ℕ) → b < 2 → b ⊕ 1 ≡ 1 - b
+by-other-digit : {c : ℕ} → Digit c → rem c 3 ≡ c
+by-other-digit off = rem-zero 3
+by-other-digit on = rem-one 3 (omega arith)
+
+digits-sum : {c d : ℕ} → Digit c → Digit d → d ⊕ c ≡ (c + d) % 2
 unfolding _⊕_
-flip = digit-cases (λ b. b ⊕ 1 ≡ 1 - b) refl refl
+digits-sum off off = refl
+digits-sum off on = refl
+digits-sum on off = refl
+digits-sum on on = refl
 
-pub parity-digit : (a c : ℕ) → c < 2 → parity (2 * a + c) ≡ parity a ⊕ c
-parity-digit a c h = ap (λ n. n % 2) ones-digit ∙ digit-cases (λ c. (c + ones a) % 2 ≡ parity a ⊕ c) even odd c h
-  where
-    ones-digit : ones (2 * a + c) ≡ c + ones a
-    ones-digit =
-        let low : (2 * a + c) % 2 ≡ c = omega arith in
-        let high : (2 * a + c) / 2 ≡ a = omega arith in
-        ones-step (2 * a + c) ∙ ap₂ (λ (x y : ℕ). x + ones y) low high
+pub rem-parity : (a : ℕ) → rem a 3 ≡ parity a
+rem-parity =
+    half-ind (rem-zero 3 ∙ unfold ones in refl)
+    (λ a ih.
+    ap (λ n. rem n 3) (sym (halves a))
+    ∙ rw (rem-⊕ 3 (omega arith), by-other-double, ih, by-other-digit (lowest a)) (digits-sum (lowest a) (lowest (ones (a / 2))) ∙ omega (arith, ones-step a)))
 
-    even : (0 + ones a) % 2 ≡ parity a ⊕ 0
-    even = rw ⊕-zero (omega arith)
+power-leaves-one : (e : ℕ) → rem (2 ^ e) 3 ≡ 1
+power-leaves-one zero = rem-one 3 (omega arith)
+power-leaves-one (suc e) = rw (pow-succ', by-other-double) (power-leaves-one e)
 
-    odd : (1 + ones a) % 2 ≡ parity a ⊕ 1
-    odd = rw (flip (parity a) (parity-bit a)) (omega arith)
-
-pub parity-double : (a : ℕ) → parity (2 * a) ≡ parity a
-parity-double a = ap parity (sym (add-zero (2 * a))) ∙ parity-digit a 0 (omega arith) ∙ ⊕-zero (parity a)
-
-parity-zero : parity 0 ≡ 0
-unfolding ones
-parity-zero = refl
-
-two-ones : parity 3 ≡ 0
-unfolding ones
-two-ones = refl
-
-pub parity-⊕ : (a b : ℕ) → parity (a ⊕ b) ≡ parity a ⊕ parity b
-parity-⊕ =
-    digit-ind (λ a. (b : ℕ) → parity (a ⊕ b) ≡ parity a ⊕ parity b)
-    (λ b. rw (zero-⊕ b, parity-zero, zero-⊕))
-    (λ a c h ih. by-digit (λ b. parity ((2 * a + c) ⊕ b) ≡ parity (2 * a + c) ⊕ parity b)
-    (λ b d k. rw (⊕-digit a b c d h k, parity-digit (a ⊕ b) (c ⊕ d) (⊕-bit c d h k), parity-digit a c h, parity-digit b d k, ih b) (⊕-swap (parity a) (parity b) c d)))
-
-parity-times : (c b : ℕ) → c < 2 → parity (c * b) ≡ c * parity b
-parity-times c b h = digit-cases (λ c. parity (c * b) ≡ c * parity b) (rw (zero-mul b, zero-mul (parity b)) parity-zero) (rw (one-mul b, one-mul (parity b))) c h
-
-pub parity-prod : (a b : ℕ) → parity (prod a b) ≡ parity a * parity b
-parity-prod a b =
-    digit-ind (λ a. parity (prod a b) ≡ parity a * parity b)
-    (rw (zero-prod b, parity-zero, zero-mul))
-    (λ a c h ih.
-    rw (prod-digit a b c h, parity-⊕ (2 * prod a b) (c * b), parity-double (prod a b), parity-times c b h, ih, parity-digit a c h)
-    (sym (⊕-mul-digit (parity a) c (parity b) (parity-bit a) h)))
-    a
-
-pub parity-power : (e : ℕ) → parity (2 ^ e) ≡ 1
-unfolding ones
-parity-power zero = refl
-parity-power (suc e) = ap parity (pow-succ' 2 e) ∙ parity-double (2 ^ e) ∙ parity-power e
-
--- Modulo an even p no power of x from x on is 1: a remainder of an even number is even.
-pub even-not-primitive : (m p : ℕ) → 1 ≤ m → 0 < p → p % 2 ≡ 0 → primitive m p ≡ false
-even-not-primitive m p h pos even = truth-false (primitive m p) (λ t. clash (primitive-order m p h t) (period m) refl)
-  where
-    clash : IsOrder p (period m) → (N : ℕ) → period m ≡ N → ⊥
-    clash o zero e = omega (arith, o .positive)
-    clash o (suc n) e =
-        let q : ℕ = quot (2 ^ suc n) p in
-        let returns : rem (2 ^ suc n) p ≡ 1 = ap (λ N. rem (2 ^ N) p) (sym e) ∙ o .holds in
-        let twice : p ≡ 2 * (p / 2) = omega arith in
-        let whole : prod q p ⊕ 1 ≡ 2 ^ suc n = ap (λ r. prod q p ⊕ r) (sym returns) ∙ division p pos (2 ^ suc n) in
-        let odd : prod q p ⊕ 1 ≡ 2 * prod q (p / 2) + 1 =
-        ap (λ b. prod q b ⊕ 1) twice ∙ ap (λ b. b ⊕ 1) (prod-double q (p / 2)) ∙ sym (digit-⊕ (prod q (p / 2)) 1 (omega arith)) in
-        omega (arith, whole, odd, pow-succ' 2 n)
-
--- Where p has an even number of ones, powers of x have an odd one, and x + 1 is none of them.
 pub even-parity-not-primitive : (m p : ℕ) → 2 ≤ m → HasDegree p m → parity p ≡ 0 → primitive m p ≡ false
 even-parity-not-primitive m p h d even = truth-false (primitive m p) (λ t. clash (full-cycle m p (omega arith) d t 3 (omega arith) (omega (arith, pow-mono h))))
   where
     clash : PowerOf m p 3 → ⊥
     clash w =
-        let q : ℕ = quot (2 ^ w .exponent) p in
-        let whole : prod q p ⊕ 3 ≡ 2 ^ w .exponent =
-        ap (λ r. prod q p ⊕ r) (sym (w .gives)) ∙ division p (omega (arith, degree-big m p (omega arith) d)) (2 ^ w .exponent) in
-        let zero′ : parity (prod q p ⊕ 3) ≡ 0 = rw (parity-⊕, parity-prod, even, two-ones, mul-zero, ⊕-zero) in
-        let k : _≡_ {A = ℕ} 0 1 = sym zero′ ∙ ap parity whole ∙ parity-power (w .exponent) in
-        omega arith
-
--- That is what a factor x + 1 means for p.
-pub factor-parity : (p : ℕ) → rem p 3 ≡ 0 → parity p ≡ 0
-factor-parity p h =
-    let whole : prod (quot p 3) 3 ≡ p = sym (⊕-zero (prod (quot p 3) 3)) ∙ ap (λ r. prod (quot p 3) 3 ⊕ r) (sym h) ∙ division 3 (omega arith) p in
-    ap parity (sym whole) ∙ parity-prod (quot p 3) 3 ∙ ap (λ b. parity (quot p 3) * b) two-ones ∙ mul-zero (parity (quot p 3))
+        let left : rem 3 3 ≡ rem (2 ^ w .exponent) 3 =
+        ap (λ r. rem r 3) (sym (w .gives)) ∙ rem-of-factor 3 p (omega arith) (positive d) (rem-parity p ∙ even) (2 ^ w .exponent) in
+        omega (arith, left, power-leaves-one (w .exponent), rw one-prod at (rem-multiple 3 (omega arith) 1))

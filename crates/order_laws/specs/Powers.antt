@@ -5,7 +5,8 @@ use Prim.Native.Nat.{ℕ, zero, suc, _+_, _*_, _/_, _%_, _^_, _≤_, _∣_}
 use native.Mathlib.Nat.{zero-add, zero-mul, mod-eq-zero-of-dvd, div-add-mod'}
 use native.Mathlib.Omega.{arith}
 use Rattle.definitions.specs.Polynomial.{rem}
-use Rattle.polynomial_laws.specs.Product.{one-prod, rem-rem}
+use Rattle.polynomial_laws.specs.Product.{one-prod}
+use Rattle.polynomial_laws.specs.Division.{rem-rem}
 use Rattle.polynomial_laws.specs.Power.{rem-one, rem-power-add}
 use Rattle.order_laws.specs.Exponents.{Smallest, Closed}
 

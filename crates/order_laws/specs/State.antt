@@ -8,8 +8,8 @@ use lib.Pow.{pow-mono}
 use Rattle.definitions.specs.Polynomial.{rem, prod, power}
 use Rattle.definitions.specs.Points.{state}
 use Rattle.polynomial_laws.specs.Degree.{HasDegree, degree-unique}
-use Rattle.polynomial_laws.specs.Division.{rem-lt}
-use Rattle.polynomial_laws.specs.Product.{prod-comm, rem-prod, rem-prod-left}
+use Rattle.polynomial_laws.specs.Product.{prod-comm}
+use Rattle.polynomial_laws.specs.Division.{rem-lt, rem-prod, rem-prod-left}
 use Rattle.polynomial_laws.specs.Power.{rem-one, powers-prod}
 
 pub state-zero : (p q : ℕ) → state p q 0 ≡ 1

@@ -1,18 +1,18 @@
--- Rows of one width in a flat list, from its front: `rowsOf` reads them back, `laid` writes them. Rows laid are read back, more rows laid
--- over fewer are as if laid at once, and what stands behind the rows stays. An insertion among them moves the rows behind its slot up by
--- one width and puts the new row there; where there is no room the last row falls off. Assumes nothing.
-use mathlib.Core.Path.{_≡_, refl, sym, ap, ap₂, _∙_}
-use mathlib.Core.List.{List, [], _∷_, _++_, append-assoc}
-use Prim.Native.Nat.{ℕ, zero, suc, _+_, _-_, _*_, _<_, _≤_}
-use native.Mathlib.Nat.{suc-mul, zero-mul, add-comm, suc-add, zero-add, mul-le-mul-right}
+-- Rows of one width in a flat list, from its front: `rowsOf` reads them, `laid` writes them over what stands there. Row by row: rows laid are
+-- read back, and more rows laid over fewer are as if laid at once. An insertion among rows read, laid again, puts the new row in at its slot
+-- and moves those behind it up by a width; where there is no room the last falls off. Assumes nothing.
+use mathlib.Core.Path.{_≡_, refl, sym, ap, _∙_}
+use mathlib.Core.Bool.{true, false}
+use mathlib.Core.List.{List, [], _∷_, _++_, append-assoc, List·Memᴰ, List·Memᴰ·head, List·Memᴰ·tail, List·Memᴰ·not-nil}
+use Prim.Native.Nat.{ℕ, zero, suc, _+_, _*_, _<_, _≤_, min}
+use native.Mathlib.Nat.{suc-mul, zero-mul, add-comm, add-assoc, suc-add, zero-add}
 use native.Mathlib.Omega.{arith}
-use native.Mathlib.Numerals.{add-one}
-use lib.ListN.{length, take, drop, getD, length-drop, length-append, take-append-drop}
-use lib.Seq.{take-all, take-add, drop-drop, drop-nil, take-nil, length-take-le, slice, take-at, drop-at, drop-append-add, take-append-add}
+use lib.ListN.{length, take, drop, getD, length-take, length-drop, length-append, take-append-drop}
+use lib.Seq.{take-all, take-take, take-add, drop-drop, take-nil, length-take-le, slice, take-at, drop-at}
 use Rattle.definitions.specs.Number.{join}
-use Rattle.definitions.specs.Pages.{insert, laid}
-use Rattle.page_laws.specs.Insertion.{length-insert}
-use Rattle.page_laws.specs.Slot.{slot, insert-slot, slot-most}
+use Rattle.definitions.specs.Pages.{before, insert, laid}
+use Rattle.page_laws.specs.Insertion.{insert-put, put-length}
+use Rattle.page_laws.specs.Slot.{slot, Ordered, insert-slot, slot-most, slot-down, slot-up}
 
 -- The first n rows of width w.
 unfoldable pub rowsOf : ℕ → ℕ → List ℕ → List (List ℕ)
@@ -20,9 +20,8 @@ rowsOf w zero s = []
 rowsOf w (suc n) s = take w s ∷ rowsOf w n (drop w s)
 
 -- Each row has width w.
-unfoldable pub Wide : ℕ → List (List ℕ) → Type 0
-Wide w [] = Unit {0}
-Wide w (r ∷ rows) = (length r ≡ w) × Wide w rows
+abbrev pub Wide : ℕ → List (List ℕ) → Type 0
+Wide w rows = (r : List ℕ) → List·Memᴰ r rows → length r ≡ w
 
 -- r put in at `from`, and the numbers from there up to `to` moved up by w, over those that stand there.
 unfoldable pub spliced : ℕ → ℕ → ℕ → List ℕ → List ℕ → List ℕ
@@ -37,179 +36,151 @@ pub record Kept : Type 0 where
   pub out : List ℕ
   pub n : ℕ
 
-unfoldable pub kept : ℕ → List (List ℕ) → List ℕ → Kept
-kept w rows s = record { out = laid w rows s; n = length rows }
-
 -- A row put in its slot among those kept, of which at most cap stay.
 unfoldable pub inserted : (List ℕ → List ℕ) → ℕ → ℕ → List ℕ → Kept → Kept
-inserted key w cap r s = kept w (take cap (insert key r (rowsOf w (s .n) (s .out)))) (s .out)
-
--- ---- laws
-
-pub drop-take : {X : Type 0} (n m : ℕ) (l : List X) → drop n (take (n + m) l) ≡ take m (drop n l)
-drop-take zero m l = ap (λ (k : ℕ). take k l) (zero-add m)
-drop-take (suc n) m [] = ap (drop (suc n)) (take-nil (suc n + m)) ∙ sym (take-nil m)
-drop-take (suc n) m (x ∷ l) = ap (λ (k : ℕ). drop (suc n) (take k (x ∷ l))) (suc-add n m) ∙ drop-take n m l
-
-pub join-append : {X : Type 0} (a b : List (List X)) → join (a ++ b) ≡ join a ++ join b
-join-append [] b = refl
-join-append (r ∷ a) b = ap (λ t. r ++ t) (join-append a b) ∙ sym (append-assoc r (join a) (join b))
+inserted key w cap r s = let rows = take cap (insert key r (rowsOf w (s .n) (s .out))) in record { out = laid w rows (s .out); n = length rows }
 
 module _ (w : ℕ) where
+  width-first : (n : ℕ) → suc n * w ≡ w + n * w
+  width-first n = suc-mul n w ∙ add-comm (n * w) w
+
+  -- ---- rows read
+
   pub length-rows : (n : ℕ) (s : List ℕ) → length (rowsOf w n s) ≡ n
   unfolding rowsOf
   length-rows zero s = refl
   length-rows (suc n) s = ap suc (length-rows n (drop w s))
 
-  more-rows : (n : ℕ) → suc n * w ≡ w + n * w
-  more-rows n = suc-mul n w ∙ add-comm (n * w) w
-
-  pub join-rows : (n : ℕ) (s : List ℕ) → join (rowsOf w n s) ≡ take (n * w) s
-  unfolding rowsOf
-  join-rows zero s = rw zero-mul
-  join-rows (suc n) s = ap (λ (t : List ℕ). take w s ++ t) (join-rows n (drop w s)) ∙ sym (take-add w (n * w) s) ∙ ap (λ (k : ℕ). take k s) (sym (more-rows n))
-
-  pub take-rows : (q n : ℕ) (s : List ℕ) → q ≤ n → take q (rowsOf w n s) ≡ rowsOf w q s
-  unfolding rowsOf
-  take-rows zero n s h = refl
-  take-rows (suc q) zero s h = absurd (omega arith)
-  take-rows (suc q) (suc n) s h = ap (λ (t : List (List ℕ)). take w s ∷ t) (take-rows q n (drop w s) (omega arith))
-
-  pub join-drop : (p q : ℕ) (s : List ℕ) → join (drop p (rowsOf w q s)) ≡ drop (p * w) (take (q * w) s)
-  unfolding rowsOf
-  join-drop zero q s = join-rows q s ∙ ap (λ (k : ℕ). drop k (take (q * w) s)) (sym (zero-mul w))
-  join-drop (suc p) zero s = sym (ap (λ (k : ℕ). drop (suc p * w) (take k s)) (zero-mul w) ∙ drop-nil (suc p * w))
-  join-drop (suc p) (suc q) s =
-      join-drop p q (drop w s)
-      ∙ ap (drop (p * w)) (sym (drop-take w (q * w) s))
-      ∙ drop-drop (p * w) w (take (w + q * w) s)
-      ∙ ap₂ (λ (a b : ℕ). drop a (take b s)) (sym (more-rows p)) (sym (more-rows q))
-
   pub row-at : (n i : ℕ) (s : List ℕ) → i < n → getD (rowsOf w n s) i [] ≡ take w (drop (i * w) s)
   unfolding rowsOf
   row-at zero i s h = absurd (omega arith)
-  row-at (suc n) zero s h = ap (λ (k : ℕ). take w (drop k s)) (sym (zero-mul w))
-  row-at (suc n) (suc i) s h = row-at n i (drop w s) (omega arith) ∙ ap (take w) (drop-drop (i * w) w s ∙ ap (λ (k : ℕ). drop k s) (sym (more-rows i)))
+  row-at (suc n) zero s h = rw zero-mul
+  row-at (suc n) (suc i) s h = row-at n i (drop w s) (omega arith) ∙ rw (width-first, drop-drop)
 
-  pub rows-laid : (n : ℕ) (s : List ℕ) → laid w (rowsOf w n s) s ≡ s
-  unfolding laid
-  rows-laid n s = ap₂ (λ (a : List ℕ) (k : ℕ). a ++ drop (k * w) s) (join-rows n s) (length-rows n s) ∙ take-append-drop (n * w) s
+  take-rows : (q n : ℕ) (s : List ℕ) → q ≤ n → take q (rowsOf w n s) ≡ rowsOf w q s
+  unfolding rowsOf
+  take-rows zero n s h = refl
+  take-rows (suc q) zero s h = absurd (omega arith)
+  take-rows (suc q) (suc n) s h = rw (take-rows q n (drop w s) (omega arith))
 
-  pub length-join : (rows : List (List ℕ)) → Wide w rows → length (join rows) ≡ length rows * w
-  unfolding Wide
-  length-join [] h = sym (zero-mul w)
-  length-join (r ∷ rows) h =
-      length-append r (join rows) ∙ ap₂ (λ (a b : ℕ). a + b) (h .0) (length-join rows (h .1)) ∙ sym (more-rows (length rows))
+  join-rows : (n : ℕ) (s : List ℕ) → join (rowsOf w n s) ≡ take (n * w) s
+  unfolding rowsOf
+  join-rows zero s = rw zero-mul
+  join-rows (suc n) s = rw (width-first, take-add, join-rows n (drop w s))
 
-  rows-join : (rows : List (List ℕ)) (t : List ℕ) → Wide w rows → rowsOf w (length rows) (join rows ++ t) ≡ rows
-  unfolding rowsOf Wide
-  rows-join [] t h = refl
-  rows-join (r ∷ rows) t h =
-      ap (rowsOf w (suc (length rows))) (append-assoc r (join rows) t)
-      ∙ ap₂ (λ (a : List ℕ) (b : List ℕ). a ∷ rowsOf w (length rows) b) (take-at r (join rows ++ t) w (h .0)) (drop-at r (join rows ++ t) w (h .0))
-      ∙ ap (λ (q : List (List ℕ)). r ∷ q) (rows-join rows t (h .1))
+  pub rows-wide : (n : ℕ) (s : List ℕ) → n * w ≤ length s → Wide w (rowsOf w n s)
+  unfolding rowsOf
+  rows-wide zero s h r i = absurd (List·Memᴰ·not-nil i)
+  rows-wide (suc n) s h r (List·Memᴰ·head e) = rw e (length-take-le w s (omega (arith, width-first n)))
+  rows-wide (suc n) s h r (List·Memᴰ·tail i) = rows-wide n (drop w s) (omega (arith, width-first n, length-drop w s)) r i
 
-  -- Rows laid down are read back.
-  pub laid-rows : (rows : List (List ℕ)) (s : List ℕ) → Wide w rows → rowsOf w (length rows) (laid w rows s) ≡ rows
-  unfolding laid
-  laid-rows rows s h = rows-join rows (drop (length rows * w) s) h
+  -- ---- rows laid
 
   pub laid-none : (s : List ℕ) → laid w [] s ≡ s
   unfolding laid
-  laid-none s = ap (λ (k : ℕ). drop k s) (zero-mul w)
+  laid-none s = rw zero-mul
+
+  laid-more : (r : List ℕ) (rows : List (List ℕ)) (s : List ℕ) → laid w (r ∷ rows) s ≡ r ++ laid w rows (drop w s)
+  unfolding laid
+  laid-more r rows s = rw (width-first, drop-drop) (append-assoc r (join rows) (drop (w + length rows * w) s))
 
   pub length-laid : (rows : List (List ℕ)) (s : List ℕ) → Wide w rows → length rows * w ≤ length s → length (laid w rows s) ≡ length s
-  unfolding laid
-  length-laid rows s h l = length-append (join rows) (drop (length rows * w) s) ∙ omega (arith, length-join rows h, length-drop (length rows * w) s)
+  length-laid [] s wide h = ap length (laid-none s)
+  length-laid (r ∷ rows) s wide h =
+      let e = width-first (length rows) in
+      let l = length-drop w s in
+      let others = length-laid rows (drop w s) (λ x i. wide x (List·Memᴰ·tail i)) (omega arith) in
+      rw (laid-more, length-append) (omega (arith, wide r (List·Memᴰ·head refl)))
+
+  -- Rows as they stand, laid where they stand.
+  rows-laid : (n : ℕ) (s : List ℕ) → laid w (rowsOf w n s) s ≡ s
+  unfolding rowsOf
+  rows-laid zero s = laid-none s
+  rows-laid (suc n) s = laid-more (take w s) (rowsOf w n (drop w s)) s ∙ rw (rows-laid n (drop w s)) (take-append-drop w s)
+
+  -- Rows laid are read back.
+  pub laid-rows : (rows : List (List ℕ)) (s : List ℕ) → Wide w rows → rowsOf w (length rows) (laid w rows s) ≡ rows
+  unfolding rowsOf
+  laid-rows [] s wide = refl
+  laid-rows (r ∷ rows) s wide =
+      let e = wide r (List·Memᴰ·head refl) in
+      let others = laid-rows rows (drop w s) (λ x i. wide x (List·Memᴰ·tail i)) in
+      rw (laid-more, take-at r (laid w rows (drop w s)) w e, drop-at r (laid w rows (drop w s)) w e, others)
 
   -- More rows laid over fewer.
   pub laid-laid : (m n : List (List ℕ)) (s : List ℕ) → Wide w m → length m ≤ length n → laid w n (laid w m s) ≡ laid w n s
-  unfolding laid
-  laid-laid m n s h l =
-      let f : length m * w ≤ length n * w = mul-le-mul-right w l in
-      let d : ℕ = length n * w - length m * w in
-      let e : length n * w ≡ length m * w + d = omega arith in
-      ap (λ (t : List ℕ). join n ++ t)
-      (ap (λ (k : ℕ). drop k (join m ++ drop (length m * w) s)) (e ∙ ap (λ (k : ℕ). k + d) (sym (length-join m h)))
-      ∙ drop-append-add (join m) (drop (length m * w) s) d
-      ∙ drop-drop d (length m * w) s
-      ∙ ap (λ (k : ℕ). drop k s) (sym e))
+  laid-laid [] n s wide h = ap (laid w n) (laid-none s)
+  laid-laid (a ∷ m) [] s wide h = absurd (omega arith)
+  laid-laid (a ∷ m) (b ∷ n) s wide h =
+      let others = laid-laid m n (drop w s) (λ x i. wide x (List·Memᴰ·tail i)) (omega arith) in
+      simp laid-more (rw (drop-at a (laid w m (drop w s)) w (wide a (List·Memᴰ·head refl)), others))
 
-  pub rows-wide : (n : ℕ) (s : List ℕ) → n * w ≤ length s → Wide w (rowsOf w n s)
-  unfolding rowsOf Wide
-  rows-wide zero s h = tt
-  rows-wide (suc n) s h =
-      let e = more-rows n in
-      (length-take-le w s (omega arith), rows-wide n (drop w s) (rw (length-drop w s) (omega arith)))
+-- ---- a row put in
+
+drop-take : {X : Type 0} (n m : ℕ) (l : List X) → drop n (take (n + m) l) ≡ take m (drop n l)
+drop-take zero m l = rw zero-add
+drop-take (suc n) m [] = rw (take-nil (suc n + m), take-nil m)
+drop-take (suc n) m (x ∷ l) = rw suc-add (drop-take n m l)
+
+-- The first q + 1 of a list with an element put in at p, no later than q: the first q, with it put in there.
+take-put-in : {X : Type 0} (p q : ℕ) (r : X) (l : List X) → p ≤ q → take (suc q) (take p l ++ (r ∷ drop p l)) ≡ take p (take q l) ++ (r ∷ drop p (take q l))
+take-put-in zero q r l h = refl
+take-put-in (suc p) zero r l h = absurd (omega arith)
+take-put-in (suc p) (suc q) r [] h = refl
+take-put-in (suc p) (suc q) r (x ∷ l) h = rw (take-put-in p q r l (omega arith))
+
+module _ (w : ℕ) (r : List ℕ) where
+  spliced-first : (q : ℕ) (s : List ℕ) → spliced (zero * w) (q * w) w r s ≡ laid w (r ∷ rowsOf w q s) s
+  unfolding spliced laid
+  spliced-first q s = rw (zero-mul, join-rows w q s, length-rows w q s, suc-mul) (sym (append-assoc r (take (q * w) s) (drop (q * w + w) s)))
+
+  spliced-next : (p q : ℕ) (s : List ℕ) → spliced (suc p * w) (suc q * w) w r s ≡ take w s ++ spliced (p * w) (q * w) w r (drop w s)
+  unfolding spliced
+  spliced-next p q s =
+      rw (width-first w p, width-first w q, take-add w (p * w) s, ← drop-drop (p * w) w (take (w + q * w) s), drop-take, add-assoc, ← drop-drop (q * w + w) w s)
+      (append-assoc (take w s) (take (p * w) (drop w s)) _)
+
+  spliced-rows : (p q : ℕ) (s : List ℕ) → p ≤ q → spliced (p * w) (q * w) w r s ≡ laid w (take p (rowsOf w q s) ++ (r ∷ drop p (rowsOf w q s))) s
+  unfolding rowsOf
+  spliced-rows zero q s h = spliced-first q s
+  spliced-rows (suc p) zero s h = absurd (omega arith)
+  spliced-rows (suc p) (suc q) s h = rw (spliced-next, laid-more, spliced-rows p q (drop w s) (omega arith))
+
+-- ---- the slot among rows read
+
+module _ (key : List ℕ → List ℕ) (w : ℕ) (r s : List ℕ) (n : ℕ) where
+  pub slot-rows : slot key r (rowsOf w n s) ≤ n
+  slot-rows = omega (arith, slot-most key r (rowsOf w n s), length-rows w n s)
+
+  pub slot-rows-down : (i : ℕ) → i < n → before (key r) (key (take w (drop (i * w) s))) ≡ true → slot key r (rowsOf w n s) ≤ i
+  slot-rows-down i h t = slot-down key r [] (rowsOf w n s) i (omega (arith, length-rows w n s)) (rw (row-at w n i s h) t)
+
+  pub slot-rows-up : (i : ℕ) → i < n → Ordered key (rowsOf w n s) → before (key r) (key (take w (drop (i * w) s))) ≡ false → i < slot key r (rowsOf w n s)
+  slot-rows-up i h o f = slot-up key r [] (rowsOf w n s) i o (omega (arith, length-rows w n s)) (rw (row-at w n i s h) f)
 
 module _ (key : List ℕ → List ℕ) (w cap : ℕ) (r s : List ℕ) (n p : ℕ) (at : p ≡ slot key r (rowsOf w n s)) where
   insert-rows : insert key r (rowsOf w n s) ≡ take p (rowsOf w n s) ++ (r ∷ drop p (rowsOf w n s))
-  insert-rows = insert-slot key r (rowsOf w n s) ∙ ap (λ (k : ℕ). take k (rowsOf w n s) ++ (r ∷ drop k (rowsOf w n s))) (sym at)
+  insert-rows = rw at (insert-slot key r (rowsOf w n s))
 
-  pub slot-in : p ≤ n
-  slot-in = omega (arith, slot-most key r (rowsOf w n s), length-rows w n s, at)
-
-  take-insert-rows : (q : ℕ) → p ≤ q → q ≤ n → take (q + 1) (insert key r (rowsOf w n s)) ≡ rowsOf w p s ++ (r ∷ drop p (rowsOf w q s))
-  take-insert-rows q l h =
-      let d : ℕ = q - p in
-      let rows : List (List ℕ) = rowsOf w n s in
-      let lp : length (take p rows) ≡ p = length-take-le p rows (omega (arith, length-rows w n s)) in
-      let e : q + 1 ≡ length (take p rows) + suc d = omega arith in
-      let f : p + d ≡ q = omega arith in
-      ap (take (q + 1)) insert-rows
-      ∙ ap (λ (k : ℕ). take k (take p rows ++ (r ∷ drop p rows))) e
-      ∙ take-append-add (take p rows) (r ∷ drop p rows) (suc d)
-      ∙ ap₂ (λ (a b : List (List ℕ)). a ++ (r ∷ b)) (take-rows w p n s (omega arith))
-      (sym (drop-take p d rows) ∙ ap (λ (k : ℕ). drop p (take k rows)) f ∙ ap (drop p) (take-rows w q n s h))
-
-  length-insert-rows : (q : ℕ) → q ≤ n → length (take (q + 1) (insert key r (rowsOf w n s))) ≡ q + 1
-  length-insert-rows q h = length-take-le (q + 1) (insert key r (rowsOf w n s)) (omega (arith, length-insert key r (rowsOf w n s), length-rows w n s))
-
-  spliced-laid : (q : ℕ) → p ≤ q → q ≤ n → spliced (p * w) (q * w) w r s ≡ laid w (take (q + 1) (insert key r (rowsOf w n s))) s
-  unfolding spliced laid
-  spliced-laid q l h =
-      let e : (q + 1) * w ≡ q * w + w = ap (λ (k : ℕ). k * w) (add-one q) ∙ suc-mul q w in
-      sym (ap₂ (λ (a : List ℕ) (k : ℕ). a ++ drop (k * w) s)
-      (ap join (take-insert-rows q l h) ∙ join-append (rowsOf w p s) (r ∷ drop p (rowsOf w q s))
-      ∙ ap₂ (λ (a b : List ℕ). a ++ (r ++ b)) (join-rows w p s) (join-drop w p q s))
-      (length-insert-rows q h)
-      ∙ ap (λ (k : ℕ). take (p * w) s ++ (r ++ slice (p * w) (q * w) s) ++ drop k s) e
-      ∙ append-assoc (take (p * w) s) (r ++ slice (p * w) (q * w) s) (drop (q * w + w) s)
-      ∙ ap (λ (t : List ℕ). take (p * w) s ++ t) (append-assoc r (slice (p * w) (q * w) s) (drop (q * w + w) s)))
-
-  spliced-kept : (q : ℕ) → p ≤ q → q ≤ n
-      → _≡_ {A = Kept} (record { out = spliced (p * w) (q * w) w r s; n = q + 1 }) (kept w (take (q + 1) (insert key r (rowsOf w n s))) s)
-  unfolding kept
-  spliced-kept q l h i = record { out = spliced-laid q l h i; n = sym (length-insert-rows q h) i }
-
-  -- There is room.
-  pub inserted-more : n < cap
-      → _≡_ {A = Kept} (record { out = spliced (p * w) (n * w) w r s; n = n + 1 }) (inserted key w cap r (record { out = s; n = n }))
+  -- k rows are kept, the new one and q of the others.
+  pub inserted-spliced : (q k : ℕ) {out : List ℕ} → p ≤ q → k ≡ suc q → k ≡ min cap (suc n) → out ≡ spliced (p * w) (q * w) w r s
+      → _≡_ {A = Kept} (record { out = out; n = k }) (inserted key w cap r (record { out = s; n = n }))
   unfolding inserted
-  inserted-more h =
-      let e : length (insert key r (rowsOf w n s)) ≡ suc n = length-insert key r (rowsOf w n s) ∙ ap suc (length-rows w n s) in
-      spliced-kept n slot-in (omega arith)
-      ∙ ap (λ (t : List (List ℕ)). kept w t s)
-      (take-all (n + 1) (insert key r (rowsOf w n s)) (omega arith) ∙ sym (take-all cap (insert key r (rowsOf w n s)) (omega arith)))
+  inserted-spliced q k h e f g =
+      let all = insert key r (rowsOf w n s) in
+      let long : length all ≡ suc n = put-length (insert-put key r (rowsOf w n s)) ∙ ap suc (length-rows w n s) in
+      let those : take cap all ≡ take p (rowsOf w q s) ++ (r ∷ drop p (rowsOf w q s)) =
+      sym (take-all k (take cap all) (omega (arith, length-take cap all)))
+      ∙ take-take k cap all (omega arith)
+      ∙ rw (e, insert-rows, take-put-in p q r (rowsOf w n s) h, take-rows w q n s (omega arith)) in
+      let number : k ≡ length (take cap all) = omega (arith, length-take cap all) in
+      λ i. record { out = (g ∙ spliced-rows w r p q s h ∙ ap (λ (rows : List (List ℕ)). laid w rows s) (sym those)) i; n = number i }
 
-  -- There is none, and the last row falls off.
-  pub inserted-full : n ≡ cap → p < n
-      → _≡_ {A = Kept} (record { out = spliced (p * w) ((n - 1) * w) w r s; n = n }) (inserted key w cap r (record { out = s; n = n }))
-  unfolding inserted
-  inserted-full e h =
-      let f : n ≡ n - 1 + 1 = omega arith in
-      let g : n - 1 + 1 ≡ cap = omega arith in
-      ap (λ (k : ℕ). record { out = spliced (p * w) ((n - 1) * w) w r s; n = k }) f
-      ∙ spliced-kept (n - 1) (omega arith) (omega arith)
-      ∙ ap (λ (k : ℕ). kept w (take k (insert key r (rowsOf w n s))) s) g
-
-  -- There is none, and the row itself falls off.
+  -- The new row falls off.
   pub inserted-none : n ≡ cap → n ≤ p → _≡_ {A = Kept} (record { out = s; n = n }) (inserted key w cap r (record { out = s; n = n }))
-  unfolding inserted kept
+  unfolding inserted
   inserted-none e h =
-      let rows : List (List ℕ) = rowsOf w n s in
+      let rows = rowsOf w n s in
       let l : length rows ≡ n = length-rows w n s in
-      let a : take p rows ≡ rows = take-all p rows (omega arith) in
-      let t : take cap (insert key r rows) ≡ rows =
-      ap (take cap) (insert-rows ∙ ap (λ (u : List (List ℕ)). u ++ (r ∷ drop p rows)) a) ∙ take-at rows (r ∷ drop p rows) cap (l ∙ e) in
-      λ i. record { out = (sym (ap (λ (u : List (List ℕ)). laid w u s) t ∙ rows-laid w n s)) i; n = (sym (ap length t ∙ l)) i }
+      let those : take cap (insert key r rows) ≡ rows = rw (insert-rows, take-all p rows (omega arith)) (take-at rows (r ∷ drop p rows) cap (l ∙ e)) in
+      rw those (λ i. record { out = sym (rows-laid w n s) i; n = sym l i })

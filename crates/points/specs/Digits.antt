@@ -9,8 +9,7 @@ use lib.Pow.{pow-mono}
 use Rattle.definitions.specs.Polynomial.{degree, quot, rem}
 use Rattle.definitions.specs.Points.{leading}
 use Rattle.polynomial_laws.specs.Degree.{HasDegree, degree-unique, positive}
-use Rattle.polynomial_laws.specs.Division.{quot-small, rem-small, rem-lt, rem-double, timesX-rem, next-digit}
-use Rattle.polynomial_laws.specs.Product.{quot-double}
+use Rattle.polynomial_laws.specs.Division.{quot-small, rem-small, rem-lt, rem-double, next-digit, quot-double}
 
 pub leading-def : (p d y : ℕ) → leading p d y ≡ quot (y * 2 ^ d) p
 unfolding leading
@@ -30,10 +29,7 @@ module _ (p : ℕ) (pos : 0 < p) (y : ℕ) (residue : y < 2 ^ degree p) where
   leading-more d = rw (leading-def, leading-def, twice) (quot-double p (y * 2 ^ d))
 
   pub rest-more : (d : ℕ) → rem (y * 2 ^ suc d) p ≡ rem (2 * rem (y * 2 ^ d) p) p
-  rest-more d =
-      ap (λ (a : ℕ). rem a p) (twice y d)
-      ∙ rem-double p pos (y * 2 ^ d)
-      ∙ timesX-rem p pos (rem (y * 2 ^ d) p) (rem-lt p pos (y * 2 ^ d))
+  rest-more d = ap (λ (a : ℕ). rem a p) (twice y d) ∙ rem-double p pos (y * 2 ^ d)
 
   pub digit-small : (d : ℕ) → 2 * rem (y * 2 ^ d) p / 2 ^ degree p < 2
   digit-small d = rw (← add-zero (2 * rem (y * 2 ^ d) p)) (next-digit p pos (y * 2 ^ d) 0 (omega arith))

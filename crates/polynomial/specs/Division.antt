@@ -1,51 +1,56 @@
 -- What long division by shifts rests on: b times x^k, with k the difference of the degrees, has the remainder's leading term; adding it makes the
 -- remainder less and keeps quotient times b plus remainder. No digit is lost in 32. Assumes nothing.
-use mathlib.Core.Path.{_≡_, subst}
-use Prim.Native.Nat.{ℕ, _+_, _-_, _*_, _/_, _%_, _^_, _≤_, _<_}
-use native.Mathlib.Nat.{mul-comm, pow-suc, div-eq-of-lt, mod-eq-of-lt}
+use mathlib.Core.Path.{_≡_}
+use Prim.Native.Nat.{ℕ, zero, suc, _+_, _-_, _*_, _/_, _%_, _^_, _≤_, _<_}
+use native.Mathlib.Nat.{mul-comm, div-eq-of-lt, mod-eq-of-lt, zero-div}
 use native.Mathlib.Omega.{arith}
-use lib.Pow.{pow-pos, pow-mono}
+use lib.Pow.{pow-mono}
 use lib.Bits.{bitXor}
 use Rattle.definitions.specs.Polynomial.{_⊕_, degree, prod}
 use Rattle.polynomial_laws.specs.Sum.{⊕-def, ⊕-cancel-both}
-use Rattle.polynomial_laws.specs.Degree.{HasDegree, degree-is, degree-unique, degree-least, degree-most, power-degree, top-cancels}
-use Rattle.polynomial_laws.specs.Product.{⊕-prod}
-use Rattle.polynomial_laws.specs.ProductDegree.{product-degree}
+use Rattle.polynomial_laws.specs.Degree.{HasDegree, degree-is, degree-least, degree-most, power-degree, top-cancels}
+use Rattle.polynomial_laws.specs.Product.{⊕-prod, product-degree}
 use Rattle.polynomial_laws.specs.Power.{power-prod}
 use Rattle.polynomial.specs.Digits.{one-shl}
 
-pub above-shift : (r m : ℕ) → (r / 2 ^ m ≡ 0 → ⊥) → 2 ^ m ≤ r
-above-shift r m n = let k : ¬ (r < 2 ^ m) = λ (l : r < 2 ^ m). n (div-eq-of-lt l) in omega arith
+-- A turn of the loop: r, of degree i, has b's degree m at least.
+pub record Turn (r b i m : ℕ) : Type 0 where
+  pub dividend : HasDegree r i
+  pub divisor : HasDegree b m
+  pub ordered : m ≤ i
+  pub below : i < 32
 
--- r has b's degree at least, and i and m are the degrees as they were found
-module _ (r b i m : ℕ) (pos : 0 < b) (fits : r < 2 ^ 32) (ei : i ≡ degree r) (em : m ≡ degree b) (large : 2 ^ m ≤ r) where
-  pr : 0 < r
-  pr = omega (arith, pow-pos m)
+-- what a shift leaves something of is not 0
+pub shift-positive : (r m : ℕ) → (r / 2 ^ m ≡ 0 → ⊥) → 0 < r
+shift-positive zero m some = absurd (some (zero-div (2 ^ m)))
+shift-positive (suc r) m some = omega arith
 
-  pub degrees-ordered : m ≤ i
-  degrees-ordered = rw ei (degree-least r m large)
+pub turn : {r b i m : ℕ} → 0 < b → r < 2 ^ 32 → i ≡ degree r → m ≡ degree b → (r / 2 ^ m ≡ 0 → ⊥) → Turn r b i m
+turn {r} {b} {m = m} pos fits ei em some =
+    let large : ¬ (r < 2 ^ m) = λ (l : r < 2 ^ m). some (div-eq-of-lt l) in
+    let nonzero : 0 < r = shift-positive r m some in
+    record {
+      dividend = rw ei (degree-is r nonzero);
+      divisor = rw em (degree-is b pos);
+      ordered = rw ei (degree-least r m (omega arith));
+      below = rw ei (degree-most r 32 nonzero fits);
+    }
 
-  below-32 : i < 32
-  below-32 = rw ei (degree-most r 32 pr fits)
-
-  hr : HasDegree r i
-  hr = rw ei (degree-is r pr)
-
+module _ {r b i m : ℕ} (t : Turn r b i m) where
   aligned : HasDegree (b * 2 ^ (i - m)) i
   aligned =
+      let e : i - m + m ≡ i = omega (arith, t .ordered) in
+      rw (mul-comm b (2 ^ (i - m)), ← power-prod) (rw e at (product-degree (i - m) (power-degree (i - m)) (t .divisor)))
+
+  kept-whole : b * 2 ^ (i - m) % 2 ^ 32 ≡ b * 2 ^ (i - m)
+  kept-whole = mod-eq-of-lt (omega (arith, aligned .most, pow-mono (t .below)))
+
+  pub turn-less : bitXor r (b * 2 ^ (i - m) % 2 ^ 32) < r
+  turn-less = rw (kept-whole, ← ⊕-def) (omega (arith, top-cancels (t .dividend) aligned, t .dividend .least))
+
+  pub turn-keeps : (q : ℕ) → prod (bitXor q (1 * 2 ^ (i - m) % 2 ^ 32)) b ⊕ bitXor r (b * 2 ^ (i - m) % 2 ^ 32) ≡ prod q b ⊕ r
+  turn-keeps q =
       let k = i - m in
-      let e : degree (2 ^ k) + degree b ≡ i = omega (arith, degree-unique (2 ^ k) k (power-degree k), degrees-ordered) in
-      subst (HasDegree (b * 2 ^ k)) e (rw (mul-comm b (2 ^ k), ← power-prod k b) (product-degree (2 ^ k) b (pow-pos k) pos))
-
-  aligned-fits : b * 2 ^ (i - m) % 2 ^ 32 ≡ b * 2 ^ (i - m)
-  aligned-fits = mod-eq-of-lt (omega (arith, aligned .most, pow-suc 2 i, pow-mono below-32))
-
-  pub division-less : bitXor r (b * 2 ^ (i - m) % 2 ^ 32) < r
-  division-less = rw (aligned-fits, ← ⊕-def) (omega (arith, top-cancels r _ i hr aligned, hr .least))
-
-  pub division-kept : (s : ℕ) → prod (bitXor s (1 * 2 ^ (i - m) % 2 ^ 32)) b ⊕ bitXor r (b * 2 ^ (i - m) % 2 ^ 32) ≡ prod s b ⊕ r
-  division-kept s =
-      let k = i - m in
-      let l : i - m < 32 = omega (arith, below-32) in
-      rw (one-shl (i - m) l, aligned-fits, ← ⊕-def s (2 ^ k), ← ⊕-def r (b * 2 ^ k), ⊕-prod s (2 ^ k) b, power-prod k b, mul-comm b (2 ^ k))
-      (⊕-cancel-both (prod s b) r (2 ^ k * b))
+      let l : i - m < 32 = omega (arith, t .below) in
+      rw (one-shl (i - m) l, kept-whole, ← ⊕-def q (2 ^ k), ← ⊕-def r (b * 2 ^ k), ⊕-prod q (2 ^ k) b, power-prod k b, mul-comm b (2 ^ k))
+      (⊕-cancel-both (prod q b) r (2 ^ k * b))

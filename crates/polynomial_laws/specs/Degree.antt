@@ -1,9 +1,9 @@
--- The degree of a nonzero polynomial is the place of its highest digit: a has degree m just where 2^m ≤ a < 2^(m+1), and for one m only.
--- Told by a shift, a / 2^m = 1, this says what the degree of a sum is: the larger of two, or less than both where they are equal.
+-- Degrees as inequalities: a has degree m where 2^m ≤ a < 2^(m+1), that is where 1 is left when a is shifted down by m; m is then the only one.
+-- Shifted down, a sum shows its degree: that of the larger term, and less than both where the leading terms are equal.
 -- Assumes nothing.
 use mathlib.Core.Path.{_≡_, refl}
-use Prim.Native.Nat.{ℕ, zero, suc, _+_, _*_, _/_, _^_, _≤_, _<_}
-use native.Mathlib.Nat.{le-refl, pow-suc, le-of-suc-le-suc, lt-of-not-le, le-antisymm, div-eq-of-lt, div-eq-of-lt-le, div-lt-iff-lt-mul}
+use Prim.Native.Nat.{ℕ, zero, suc, _*_, _/_, _^_, _≤_, _<_}
+use native.Mathlib.Nat.{le-refl, lt-of-not-le, div-eq-of-lt, div-eq-of-lt-le, div-mul-le-self, lt-div-mul-add}
 use native.Mathlib.Omega.{arith}
 use lib.Pow.{pow-pos, pow-mono}
 use Rattle.definitions.specs.Polynomial.{_⊕_, degree, degreeWithin}
@@ -13,80 +13,72 @@ pub record HasDegree (a m : ℕ) : Type 0 where
   pub least : 2 ^ m ≤ a
   pub most : a < 2 * 2 ^ m
 
-degreeWithin-is : (f a : ℕ) → 0 < a → a ≤ f → HasDegree a (degreeWithin f a)
+-- ---- between powers of two
+pub exponent-le : (i j a : ℕ) → 2 ^ i ≤ a → a < 2 ^ suc j → i ≤ j
+exponent-le i j a above below =
+    let l : i < suc j = lt-of-not-le (λ (k : suc j ≤ i). omega (arith, pow-mono k)) in
+    omega arith
+
+pub positive : {a m : ℕ} → HasDegree a m → 0 < a
+positive {m = m} h = omega (arith, pow-pos m)
+
+pub power-degree : (k : ℕ) → HasDegree (2 ^ k) k
+power-degree k = record { least = omega arith; most = omega (arith, pow-pos k) }
+
+pub double-degree : {a m : ℕ} → HasDegree a m → HasDegree (2 * a) (suc m)
+double-degree h = record { least = omega arith; most = omega arith }
+
+pub half-degree : {a m : ℕ} → HasDegree a (suc m) → HasDegree (a / 2) m
+half-degree h = record { least = omega arith; most = omega arith }
+
+pub degree-of-half : {a m : ℕ} → HasDegree (a / 2) m → HasDegree a (suc m)
+degree-of-half h = record { least = omega arith; most = omega arith }
+
+-- ---- the degree as it is computed, by halving
+halved : (n a : ℕ) → 0 < a → a ≤ n → HasDegree a (degreeWithin n a)
 unfolding degreeWithin
-degreeWithin-is zero a h k = absurd (omega arith)
-degreeWithin-is (suc f) zero h k = absurd (omega arith)
-degreeWithin-is (suc f) (suc zero) h k = record { least = omega arith; most = omega arith }
-degreeWithin-is (suc f) (suc (suc a)) h k =
-    let ih = degreeWithin-is f (suc (suc a) / 2) (omega arith) (omega arith) in
-    let e = pow-suc 2 (degreeWithin f (suc (suc a) / 2)) in
-    record { least = omega arith; most = omega arith }
+halved zero a pos h = absurd (omega arith)
+halved (suc n) zero pos h = absurd (omega arith)
+halved (suc n) (suc zero) pos h = power-degree 0
+halved (suc n) (suc (suc a)) pos h = degree-of-half (halved n (suc (suc a) / 2) (omega arith) (omega arith))
 
 pub degree-is : (a : ℕ) → 0 < a → HasDegree a (degree a)
-unfolding degree
-degree-is a h = degreeWithin-is a a h (le-refl a)
-
--- a number is below twice a power of two and not below another: how their exponents lie
-pub exponents : (i j a : ℕ) → 2 ^ i ≤ a → a < 2 * 2 ^ j → i ≤ j
-exponents i j a h k = le-of-suc-le-suc (lt-of-not-le λ (l : suc j ≤ i). omega (arith, pow-mono l))
+degree-is a pos = unfold degree in halved a a pos (le-refl a)
 
 pub degree-unique : (a m : ℕ) → HasDegree a m → degree a ≡ m
 degree-unique a m h =
-    let k = degree-is a (omega (arith, pow-pos m)) in
-    le-antisymm (exponents (degree a) m a (k .least) (h .most)) (exponents m (degree a) a (h .least) (k .most))
-
-pub degree-def : (a : ℕ) → degree a ≡ degreeWithin a a
-unfolding degree
-degree-def a = refl
+    let k = degree-is a (positive h) in
+    omega (arith, exponent-le m (degree a) a (h .least) (omega arith), exponent-le (degree a) m a (k .least) (omega arith))
 
 pub degree-zero : degree 0 ≡ 0
 unfolding degree degreeWithin
 degree-zero = refl
 
 pub degree-one : degree 1 ≡ 0
-unfolding degree degreeWithin
-degree-one = refl
+degree-one = degree-unique 1 0 (power-degree 0)
 
-pub positive : {a m : ℕ} → HasDegree a m → 0 < a
-positive {a} {m} h = omega (arith, pow-pos m, h .least)
-
--- ---- bounds by powers of two and by degrees
 pub degree-least : (a m : ℕ) → 2 ^ m ≤ a → m ≤ degree a
-degree-least a m h = exponents m (degree a) a h (degree-is a (omega (arith, pow-pos m)) .most)
+degree-least a m h = exponent-le m (degree a) a h (omega (arith, degree-is a (omega (arith, pow-pos m)) .most))
 
 pub degree-most : (a m : ℕ) → 0 < a → a < 2 ^ m → degree a < m
 degree-most a m pos h = lt-of-not-le λ (l : m ≤ degree a). omega (arith, pow-mono l, degree-is a pos .least)
 
-pub power-degree : (k : ℕ) → HasDegree (2 ^ k) k
-power-degree k = record { least = omega arith; most = omega (arith, pow-pos k) }
+-- ---- shifted down
+pub lt-of-shr : (m a : ℕ) → a / 2 ^ m ≡ 0 → a < 2 ^ m
+lt-of-shr m a none = omega (arith, rw none at (lt-div-mul-add {a = a} (pow-pos m)))
 
--- ---- shifts
-pub lt-of-shr : (k a : ℕ) → a / 2 ^ k ≡ 0 → a < 2 ^ k
-lt-of-shr k a e = omega (arith, div-lt-iff-lt-mul {x = a} {y = 1} (pow-pos k) .0 (omega arith))
+pub leading-one : {a m : ℕ} → HasDegree a m → a / 2 ^ m ≡ 1
+leading-one {m = m} h = div-eq-of-lt-le (2 ^ m) (omega (arith, h .least)) (omega (arith, h .most))
 
-pub shifted : (a m : ℕ) → HasDegree a m → a / 2 ^ m ≡ 1
-shifted a m h = div-eq-of-lt-le (2 ^ m) (omega (arith, h .least)) (omega (arith, h .most))
+pub one-leads : {a : ℕ} (m : ℕ) → a / 2 ^ m ≡ 1 → HasDegree a m
+one-leads {a} m one = record {
+  least = omega (arith, rw one at (div-mul-le-self a (2 ^ m)));
+  most = omega (arith, rw one at (lt-div-mul-add {a = a} (pow-pos m)));
+}
 
-pub degree-of-shifted : (a m : ℕ) → a / 2 ^ m ≡ 1 → HasDegree a m
-degree-of-shifted a m e =
-    let h : a < 2 * 2 ^ m = div-lt-iff-lt-mul (pow-pos m) .0 (omega arith) in
-    let l : ¬ (a < 1 * 2 ^ m) = λ (k : a < 1 * 2 ^ m). let z : a / 2 ^ m < 1 = div-lt-iff-lt-mul (pow-pos m) .1 k in omega arith in
-    record { least = omega arith; most = h }
+-- ---- sums
+pub add-degree : {a b m : ℕ} → HasDegree a m → b < 2 ^ m → HasDegree (a ⊕ b) m
+add-degree {m = m} h below = one-leads m (rw (⊕-shr, leading-one h, div-eq-of-lt below, ⊕-zero))
 
--- ---- sums and doubles
--- what is below the leading term leaves the degree
-pub add-degree : (a b m : ℕ) → HasDegree a m → b < 2 ^ m → HasDegree (a ⊕ b) m
-add-degree a b m h k = degree-of-shifted (a ⊕ b) m (rw (⊕-shr, shifted a m h, div-eq-of-lt k, ⊕-zero))
-
--- equal leading terms cancel
-pub top-cancels : (a b m : ℕ) → HasDegree a m → HasDegree b m → a ⊕ b < 2 ^ m
-top-cancels a b m h k = lt-of-shr m (a ⊕ b) (rw (⊕-shr, shifted a m h, shifted b m k, ⊕-self))
-
-pub double-degree : (a m : ℕ) → HasDegree a m → HasDegree (2 * a) (suc m)
-double-degree a m h = record { least = omega (arith, pow-suc 2 m, h .least); most = omega (arith, pow-suc 2 m, h .most) }
-
-pub degree-digit : (a c : ℕ) → c < 2 → 0 < a → HasDegree (2 * a + c) (suc (degree a))
-degree-digit a c h pos =
-    let k = degree-is a pos in
-    record { least = omega (arith, pow-suc 2 (degree a)); most = omega (arith, pow-suc 2 (degree a)) }
+pub top-cancels : {a b m : ℕ} → HasDegree a m → HasDegree b m → a ⊕ b < 2 ^ m
+top-cancels {m = m} h k = lt-of-shr m _ (rw (⊕-shr, leading-one h, leading-one k, ⊕-self))

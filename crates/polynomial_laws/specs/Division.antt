@@ -1,197 +1,150 @@
--- Long division by b, of degree m. The remainder of 2a + c is the remainder of a with c brought down and the coefficient at x^m cleared
--- by b. Clearing is additive, so remainder and quotient are too, by induction on digits; both are exact for a of a smaller degree.
+-- Long division by b ≠ 0. Each step clears the leading coefficient, so the remainder stays below b's leading term and a = quot a b · b + rem a b.
+-- A multiple of b below that term is 0, so such a quotient and remainder are the only ones: every other law names a pair that has these two facts.
 -- Assumes nothing.
 use mathlib.Core.Path.{_≡_, refl, sym, ap, _∙_, subst}
 use Prim.Native.Nat.{ℕ, zero, suc, _+_, _*_, _/_, _%_, _^_, _≤_, _<_}
-use native.Mathlib.Nat.{zero-add, zero-mul, one-mul, zero-div, div-lt-iff-lt-mul, div-eq-of-lt, add-zero}
+use native.Mathlib.Nat.{zero-mul, one-mul, add-zero, zero-div, div-lt-iff-lt-mul}
 use native.Mathlib.Omega.{arith}
-use lib.Pow.{pow-pos}
-use Rattle.definitions.specs.Polynomial.{_⊕_, degree, byDigits, byDigitsWithin, Division, bringDown, divide, rem, quot, clear}
-use Rattle.polynomial_laws.specs.Sum.{digit-ind, by-digit, digit-cases, halves, zero-⊕, ⊕-bit, ⊕-zero, ⊕-self, ⊕-shr, ⊕-mul-digit, ⊕-swap, ⊕-digit, ⊕-double}
-use Rattle.polynomial_laws.specs.Degree.{HasDegree, degree-is, lt-of-shr, shifted}
+use lib.Pow.{pow-pos, pow-mono}
+use Rattle.definitions.specs.Polynomial.{_⊕_, degree, prod, Division, clear, bringDown, divide, quot, rem}
+use Rattle.polynomial_laws.specs.Digits.{Digit, off, on, digit, half-ind, byDigits-zero, byDigits-half}
+use Rattle.polynomial_laws.specs.Sum.{⊕-lt, zero-⊕, ⊕-zero, ⊕-assoc, ⊕-cancel-both, ⊕-sums, ⊕-swap, ⊕-injective, ⊕-across, ⊕-equal, ⊕-double, digit-⊕, halves}
+use Rattle.polynomial_laws.specs.Degree.{HasDegree, degree-is, degree-unique, lt-of-shr, one-leads, add-degree, top-cancels}
+use Rattle.polynomial_laws.specs.Product.{zero-prod, one-prod, two-prod, double-prod, digit-prod, ⊕-prod, prod-zero, prod-comm, prod-assoc, product-degree, multiple-small}
 
-module _ {X : Type 0} (z : X) (g : ℕ → X → X) where
-  byDigitsWithin-any : (f k a : ℕ) → a ≤ f → a ≤ k → byDigitsWithin z g f a ≡ byDigitsWithin z g k a
-  unfolding byDigitsWithin
-  byDigitsWithin-any zero zero zero h l = refl
-  byDigitsWithin-any zero (suc k) zero h l = refl
-  byDigitsWithin-any (suc f) zero zero h l = refl
-  byDigitsWithin-any (suc f) (suc k) zero h l = refl
-  byDigitsWithin-any zero k (suc a) h l = absurd (omega arith)
-  byDigitsWithin-any (suc f) zero (suc a) h l = absurd (omega arith)
-  byDigitsWithin-any (suc f) (suc k) (suc a) h l = ap (g (suc a % 2)) (byDigitsWithin-any f k (suc a / 2) (omega arith) (omega arith))
-
-  pub byDigits-zero : byDigits z g 0 ≡ z
-  unfolding byDigits byDigitsWithin
-  byDigits-zero = refl
-
-  byDigits-step : g 0 z ≡ z → (n : ℕ) → byDigits z g n ≡ g (n % 2) (byDigits z g (n / 2))
-  unfolding byDigits byDigitsWithin
-  byDigits-step e zero = sym e
-  byDigits-step e (suc n) = ap (g (suc n % 2)) (byDigitsWithin-any n (suc n / 2) (suc n / 2) (omega arith) (omega arith))
-
-  -- one more digit behind is one more g in front, where leading zeros leave z
-  pub byDigits-digit : g 0 z ≡ z → (a c : ℕ) → c < 2 → byDigits z g (2 * a + c) ≡ g c (byDigits z g a)
-  byDigits-digit e a c h =
-      let q : (2 * a + c) / 2 ≡ a = omega arith in
-      let r : (2 * a + c) % 2 ≡ c = omega arith in
-      byDigits-step e (2 * a + c) ∙ rw (q, r)
-
-pub clear-def : (m b r : ℕ) → clear m b r ≡ r ⊕ r / 2 ^ m * b
-unfolding clear
-clear-def m b r = refl
-
--- A residue of p times x.
-unfoldable pub timesX : ℕ → ℕ → ℕ
-unfolding clear degree
-timesX p r = clear (degree p) p (2 * r)
-
-pub timesX-def : (b r : ℕ) → timesX b r ≡ clear (degree b) b (2 * r)
-unfolding timesX
-timesX-def b r = refl
-
--- ---- clearing the coefficient at x^m by b of degree m
-module _ (m b : ℕ) (hb : HasDegree b m) where
-  digit-top : (t : ℕ) → t < 2 → t * b / 2 ^ m ≡ t
-  digit-top = digit-cases (λ t. t * b / 2 ^ m ≡ t) (rw (zero-mul b, zero-div (2 ^ m))) (rw (one-mul b) (shifted b m hb))
-
-  is-digit : (r : ℕ) → r < 2 * 2 ^ m → r / 2 ^ m < 2
-  is-digit r h = div-lt-iff-lt-mul (pow-pos m) .1 h
-
-  pub clear-lt : (r : ℕ) → r < 2 * 2 ^ m → clear m b r < 2 ^ m
-  unfolding clear
-  clear-lt r h =
-      lt-of-shr m (r ⊕ r / 2 ^ m * b) (rw (⊕-shr, digit-top (r / 2 ^ m) (is-digit r h), ⊕-self))
-
-  pub clear-small : (r : ℕ) → r < 2 ^ m → clear m b r ≡ r
-  unfolding clear
-  clear-small r h = rw (div-eq-of-lt h, zero-mul b, ⊕-zero r)
-
-  pub clear-large : (r : ℕ) → HasDegree r m → clear m b r ≡ r ⊕ b
-  unfolding clear
-  clear-large r h = rw (shifted r m h, one-mul b)
-
-  pub clear-zero : clear m b 0 ≡ 0
-  clear-zero = clear-small 0 (pow-pos m)
-
-  pub clear-self : clear m b b ≡ 0
-  unfolding clear
-  clear-self = rw (shifted b m hb, one-mul b, ⊕-self b)
-
-  pub clear-⊕ : (r s : ℕ) → r < 2 * 2 ^ m → s < 2 * 2 ^ m → clear m b (r ⊕ s) ≡ clear m b r ⊕ clear m b s
-  unfolding clear
-  clear-⊕ r s hr hs = rw (⊕-shr, ⊕-mul-digit (r / 2 ^ m) (s / 2 ^ m) b (is-digit r hr) (is-digit s hs)) (⊕-swap r s _ _)
-
-pub bringDown-def : (m b c : ℕ) (d : Division)
-    → bringDown m b c d ≡ record { quotient = 2 * d .quotient + (2 * d .remainder + c) / 2 ^ m; remainder = clear m b (2 * d .remainder + c) }
-unfolding bringDown
-bringDown-def m b c d = refl
-
-pub divide-def : (a b : ℕ) → divide a b ≡ byDigits (record { quotient = 0; remainder = 0 }) (bringDown (degree b) b) a
-unfolding divide
-divide-def a b = refl
-
-pub quot-def : (a b : ℕ) → quot a b ≡ divide a b .quotient
-unfolding quot
-quot-def a b = refl
-
-pub rem-def : (a b : ℕ) → rem a b ≡ divide a b .remainder
-unfolding rem
-rem-def a b = refl
-
-pub divide-is : (a b : ℕ) → divide a b ≡ record { quotient = quot a b; remainder = rem a b }
-unfolding quot rem
-divide-is a b = refl
-
-pub bringDown-zero : (m b : ℕ) → bringDown m b 0 (record { quotient = 0; remainder = 0 }) ≡ record { quotient = 0; remainder = 0 }
-unfolding bringDown clear
-bringDown-zero m b = rw (zero-div (2 ^ m), zero-mul b, ⊕-zero 0)
-
-pub divide-digit : (b a c : ℕ) → c < 2 → divide (2 * a + c) b ≡ bringDown (degree b) b c (divide a b)
-unfolding divide
-divide-digit b a c h = byDigits-digit (record { quotient = 0; remainder = 0 }) (bringDown (degree b) b) (bringDown-zero (degree b) b) a c h
-
-pub rem-digit : (b a c : ℕ) → c < 2 → rem (2 * a + c) b ≡ clear (degree b) b (2 * rem a b + c)
-unfolding rem bringDown
-rem-digit b a c h = ap (λ (d : Division). d .remainder) (divide-digit b a c h)
-
-pub quot-digit : (b a c : ℕ) → c < 2 → quot (2 * a + c) b ≡ 2 * quot a b + (2 * rem a b + c) / 2 ^ degree b
-unfolding quot rem bringDown
-quot-digit b a c h = ap (λ (d : Division). d .quotient) (divide-digit b a c h)
-
-pub rem-zero : (b : ℕ) → rem 0 b ≡ 0
-unfolding rem divide byDigits byDigitsWithin
-rem-zero b = refl
+-- ---- one coefficient at a time
+divide-zero : (b : ℕ) → divide 0 b ≡ record { quotient = 0; remainder = 0 }
+divide-zero b = unfold divide in byDigits-zero (record { quotient = 0; remainder = 0 }) (bringDown (degree b) b)
 
 pub quot-zero : (b : ℕ) → quot 0 b ≡ 0
-unfolding quot divide byDigits byDigitsWithin
-quot-zero b = refl
+quot-zero b = unfold quot in ap (λ (d : Division). d .quotient) (divide-zero b)
 
--- ---- the laws, for b ≠ 0
+pub rem-zero : (b : ℕ) → rem 0 b ≡ 0
+rem-zero b = unfold rem in ap (λ (d : Division). d .remainder) (divide-zero b)
+
+divide-half : (a b : ℕ) → divide a b ≡ bringDown (degree b) b (a % 2) (divide (a / 2) b)
+unfolding divide bringDown clear
+divide-half a b =
+    byDigits-half (record { quotient = 0; remainder = 0 }) (bringDown (degree b) b) (simp (zero-div, zero-mul, ⊕-zero)) a
+
+-- the remainder with the next coefficient behind it, and what then stands at b's leading term
+quot-half : (a b : ℕ) → quot a b ≡ 2 * quot (a / 2) b + (2 * rem (a / 2) b + a % 2) / 2 ^ degree b
+unfolding quot rem bringDown
+quot-half a b = ap (λ (d : Division). d .quotient) (divide-half a b)
+
+rem-half : (a b : ℕ) → rem a b ≡ (2 * rem (a / 2) b + a % 2) ⊕ (2 * rem (a / 2) b + a % 2) / 2 ^ degree b * b
+unfolding rem bringDown clear
+rem-half a b = ap (λ (d : Division). d .remainder) (divide-half a b)
+
+pub quot-double : (b a : ℕ) → quot (2 * a) b ≡ 2 * quot a b + 2 * rem a b / 2 ^ degree b
+quot-double b a =
+    let half : 2 * a / 2 ≡ a = omega arith in
+    let low : 2 * a % 2 ≡ 0 = omega arith in
+    quot-half (2 * a) b ∙ rw (half, low, add-zero)
+
 module _ (b : ℕ) (pos : 0 < b) where
   hb : HasDegree b (degree b)
   hb = degree-is b pos
 
+  -- ---- existence
+  cleared : {t : ℕ} → Digit t → (r : ℕ) → r / 2 ^ degree b ≡ t → r ⊕ t * b < 2 ^ degree b
+  cleared off r e = rw (zero-mul, ⊕-zero) (lt-of-shr (degree b) r e)
+  cleared on r e = rw one-mul (top-cancels (one-leads (degree b) e) hb)
+
+  leading : (r : ℕ) → r < 2 * 2 ^ degree b → Digit (r / 2 ^ degree b)
+  leading r h = digit _ (div-lt-iff-lt-mul (pow-pos (degree b)) .1 h)
+
   pub rem-lt : (a : ℕ) → rem a b < 2 ^ degree b
-  rem-lt = digit-ind (λ a. rem a b < 2 ^ degree b) (rw rem-zero (pow-pos (degree b)))
-      (λ a c h ih. rw rem-digit (clear-lt (degree b) b hb (2 * rem a b + c) (omega arith)))
-
-  pub rem-small : (a : ℕ) → a < 2 ^ degree b → rem a b ≡ a
-  rem-small = digit-ind (λ a. a < 2 ^ degree b → rem a b ≡ a) (λ _. rem-zero b)
-      (λ a c h ih k. rw (rem-digit, ih (omega arith)) (clear-small (degree b) b hb (2 * a + c) k))
-
-  pub quot-small : (a : ℕ) → a < 2 ^ degree b → quot a b ≡ 0
-  quot-small = digit-ind (λ a. a < 2 ^ degree b → quot a b ≡ 0) (λ _. quot-zero b)
-      (λ a c h ih k. rw (quot-digit, ih (omega arith), rem-small a (omega arith), div-eq-of-lt k))
-
-  -- the remainder before the digit at the degree is cleared
-  two-rem : (a c : ℕ) → c < 2 → 2 * rem a b + c < 2 * 2 ^ degree b
-  two-rem a c h = omega (arith, rem-lt a)
+  rem-lt = half-ind (rw rem-zero (pow-pos (degree b))) (λ a ih. rw rem-half (cleared (leading _ (omega arith)) _ refl))
 
   pub next-digit : (a c : ℕ) → c < 2 → (2 * rem a b + c) / 2 ^ degree b < 2
-  next-digit a c h = is-digit (degree b) b hb (2 * rem a b + c) (two-rem a c h)
+  next-digit a c h = div-lt-iff-lt-mul (pow-pos (degree b)) .1 (omega (arith, rem-lt a))
 
-  pub rem-⊕ : (a a′ : ℕ) → rem (a ⊕ a′) b ≡ rem a b ⊕ rem a′ b
-  rem-⊕ = digit-ind (λ a. (a′ : ℕ) → rem (a ⊕ a′) b ≡ rem a b ⊕ rem a′ b) (λ a′. simp (zero-⊕, rem-zero))
-      (λ a c h ih. by-digit (λ a′. rem ((2 * a + c) ⊕ a′) b ≡ rem (2 * a + c) b ⊕ rem a′ b)
-      λ a′ d k. simp (⊕-digit, ⊕-bit, rem-digit, ih) (rw (← ⊕-digit) (clear-⊕ (degree b) b hb _ _ (two-rem a c h) (two-rem a′ d k))))
+  pub division : (a : ℕ) → prod (quot a b) b ⊕ rem a b ≡ a
+  division = half-ind (rw (quot-zero, rem-zero, zero-prod, zero-⊕))
+      (λ a ih.
+      let q = quot (a / 2) b in
+      let r = rem (a / 2) b in
+      let t = (2 * r + a % 2) / 2 ^ degree b in
+      let h : t < 2 = next-digit (a / 2) (a % 2) (omega arith) in
+      rw (quot-half a b, rem-half a b, digit-⊕ q t h, ⊕-prod, double-prod, digit-prod (digit t h) b, ⊕-cancel-both)
+      (rw (digit-⊕ r (a % 2) (omega arith), ← ⊕-assoc, ← ⊕-double, ih) (halves a)))
 
-  pub quot-⊕ : (a a′ : ℕ) → quot (a ⊕ a′) b ≡ quot a b ⊕ quot a′ b
-  quot-⊕ = digit-ind (λ a. (a′ : ℕ) → quot (a ⊕ a′) b ≡ quot a b ⊕ quot a′ b) (λ a′. simp (zero-⊕, quot-zero))
-      (λ a c h ih. by-digit (λ a′. quot ((2 * a + c) ⊕ a′) b ≡ quot (2 * a + c) b ⊕ quot a′ b)
-      λ a′ d k. simp (⊕-digit, ⊕-bit, quot-digit, ih, next-digit, rem-⊕) (rw (← ⊕-digit (rem a b) (rem a′ b) c d, ⊕-shr)))
+  -- ---- uniqueness
+  pub division-unique : (a q r : ℕ) → prod q b ⊕ r ≡ a → r < 2 ^ degree b → (q ≡ quot a b) × (r ≡ rem a b)
+  division-unique a q r e h =
+      let same : prod q b ⊕ r ≡ prod (quot a b) b ⊕ rem a b = e ∙ sym (division a) in
+      let small : prod (q ⊕ quot a b) b < 2 ^ degree b = rw (⊕-prod, ⊕-across _ _ _ _ same) (⊕-lt (degree b) r (rem a b) h (rem-lt a)) in
+      let eq : q ≡ quot a b = ⊕-equal q (quot a b) (multiple-small _ b pos small) in
+      (eq, ⊕-injective (prod q b) r (rem a b) (same ∙ rw eq))
 
-  pub rem-double : (a : ℕ) → rem (2 * a) b ≡ timesX b (rem a b)
-  unfolding timesX
-  rem-double a = simp add-zero at (rem-digit b a 0 (omega arith))
+  module _ (q r : ℕ) (small : r < 2 ^ degree b) where
+    pub quot-unique : quot (prod q b ⊕ r) b ≡ q
+    quot-unique = sym (division-unique _ q r refl small .0)
 
-  half-small : b / 2 < 2 ^ degree b
-  half-small = omega (arith, hb .most)
+    pub rem-unique : rem (prod q b ⊕ r) b ≡ r
+    rem-unique = sym (division-unique _ q r refl small .1)
 
-  pub rem-self : rem b b ≡ 0
-  rem-self = subst (λ x. rem x b ≡ 0) (halves b)
-      (rw (rem-digit b (b / 2) (b % 2) (omega arith), rem-small (b / 2) half-small, halves b) (clear-self (degree b) b hb))
+  -- ---- of what is small, of b's degree, of a sum
+  module _ (a : ℕ) (small : a < 2 ^ degree b) where
+    pub quot-small : quot a b ≡ 0
+    quot-small = sym (division-unique a 0 a (rw (zero-prod, zero-⊕)) small .0)
 
-  pub quot-self : quot b b ≡ 1
-  quot-self = subst (λ x. quot x b ≡ 1) (halves b)
-      (rw (quot-digit b (b / 2) (b % 2) (omega arith), quot-small (b / 2) half-small, rem-small (b / 2) half-small, halves b, zero-add)
-      (shifted b (degree b) hb))
+    pub rem-small : rem a b ≡ a
+    rem-small = sym (division-unique a 0 a (rw (zero-prod, zero-⊕)) small .1)
 
-  pub timesX-zero : timesX b 0 ≡ 0
-  timesX-zero = rw timesX-def (clear-zero (degree b) b hb)
+  pub rem-rem : (a : ℕ) → rem (rem a b) b ≡ rem a b
+  rem-rem a = rem-small (rem a b) (rem-lt a)
 
-  pub timesX-lt : (r : ℕ) → r < 2 ^ degree b → timesX b r < 2 ^ degree b
-  timesX-lt r h = rw timesX-def (clear-lt (degree b) b hb (2 * r) (omega arith))
+  pub rem-once : (a : ℕ) → HasDegree a (degree b) → rem a b ≡ a ⊕ b
+  rem-once a h = sym (division-unique a 1 (a ⊕ b) (rw one-prod (simp ⊕-sums)) (top-cancels h hb) .1)
 
-  -- no reduction where the double has a smaller degree, and one by b where it has b's
-  pub timesX-small : (r : ℕ) → 2 * r < 2 ^ degree b → timesX b r ≡ 2 * r
-  timesX-small r h = rw timesX-def (clear-small (degree b) b hb (2 * r) h)
+  module _ (a c : ℕ) where
+    added : (quot a b ⊕ quot c b ≡ quot (a ⊕ c) b) × (rem a b ⊕ rem c b ≡ rem (a ⊕ c) b)
+    added =
+        division-unique (a ⊕ c) _ _ (rw (⊕-prod, ⊕-swap, division a, division c)) (⊕-lt (degree b) (rem a b) (rem c b) (rem-lt a) (rem-lt c))
 
-  pub timesX-large : (r : ℕ) → r < 2 ^ degree b → 2 ^ degree b ≤ 2 * r → timesX b r ≡ 2 * r ⊕ b
-  timesX-large r h l = rw timesX-def (clear-large (degree b) b hb (2 * r) (record { least = l; most = omega arith }))
+    pub quot-⊕ : quot (a ⊕ c) b ≡ quot a b ⊕ quot c b
+    quot-⊕ = sym (added .0)
 
-  pub timesX-rem : (r : ℕ) → r < 2 ^ degree b → timesX b r ≡ rem (2 * r) b
-  timesX-rem r h = sym (rem-double r ∙ ap (timesX b) (rem-small r h))
+    pub rem-⊕ : rem (a ⊕ c) b ≡ rem a b ⊕ rem c b
+    rem-⊕ = sym (added .1)
 
-  pub timesX-⊕ : (r s : ℕ) → r < 2 ^ degree b → s < 2 ^ degree b → timesX b (r ⊕ s) ≡ timesX b r ⊕ timesX b s
-  timesX-⊕ r s h k = simp (timesX-def, ⊕-double) (clear-⊕ (degree b) b hb (2 * r) (2 * s) (omega arith) (omega arith))
+  -- ---- of products: a factor may be reduced first
+  pub rem-multiple : (q : ℕ) → rem (prod q b) b ≡ 0
+  rem-multiple q = rw ⊕-zero at (rem-unique q 0 (pow-pos (degree b)))
+
+  pub rem-prod-left : (a c : ℕ) → rem (prod (rem a b) c) b ≡ rem (prod a c) b
+  rem-prod-left a c =
+      let q = quot a b in
+      let whole : prod a c ≡ prod (prod q c) b ⊕ prod (rem a b) c =
+      ap (λ x. prod x c) (sym (division a)) ∙ rw (⊕-prod, prod-assoc q b c, prod-comm b c, ← prod-assoc q c b) in
+      sym (ap (λ x. rem x b) whole ∙ rw (rem-⊕, rem-multiple, zero-⊕))
+
+  module _ (a c : ℕ) where
+    pub rem-prod-right : rem (prod a (rem c b)) b ≡ rem (prod a c) b
+    rem-prod-right = rw (prod-comm a (rem c b), prod-comm a c) (rem-prod-left c a)
+
+    pub rem-prod : rem (prod (rem a b) (rem c b)) b ≡ rem (prod a c) b
+    rem-prod = rem-prod-left a (rem c b) ∙ rem-prod-right
+
+  pub rem-double : (a : ℕ) → rem (2 * a) b ≡ rem (2 * rem a b) b
+  rem-double a = rw (← two-prod a, ← two-prod (rem a b)) (sym (rem-prod-right 2 a))
+
+  -- ---- the quotient's degree, for a of b's degree at least
+  pub quotient-degree : (a : ℕ) → 2 ^ degree b ≤ a → degree a ≡ degree (quot a b) + degree b
+  quotient-degree a large = go (quot a b) (division a)
+    where
+      go : (q : ℕ) → prod q b ⊕ rem a b ≡ a → degree a ≡ degree q + degree b
+      go zero e = absurd (omega (arith, rw (zero-prod, zero-⊕) at e, rem-lt a))
+      go (suc q) e =
+          let n = degree (suc q) + degree b in
+          let l : 2 ^ degree b ≤ 2 ^ n = pow-mono (omega arith) in
+          degree-unique a n (subst (λ x. HasDegree x n) e
+          (add-degree (product-degree (degree (suc q)) (degree-is (suc q) (omega arith)) hb) (omega (arith, rem-lt a))))
+
+-- where b divides p, the remainder by p keeps the remainder by b
+pub rem-of-factor : (b p : ℕ) → 0 < b → 0 < p → rem p b ≡ 0 → (a : ℕ) → rem (rem a p) b ≡ rem a b
+rem-of-factor b p pos nonzero factor a =
+    let none : rem (prod (quot a p) p) b ≡ 0 = sym (rem-prod-right b pos (quot a p) p) ∙ rw (factor, prod-zero) (rem-zero b) in
+    sym (ap (λ x. rem x b) (sym (division p nonzero a)) ∙ rw (rem-⊕ b pos, none, zero-⊕))

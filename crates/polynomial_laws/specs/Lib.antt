@@ -1,7 +1,7 @@
--- Laws of binary polynomials, from sums up to powers modulo a polynomial.
+-- Laws of binary polynomials, from digits and sums up to powers modulo a polynomial.
+pub mod Digits
 pub mod Sum
 pub mod Degree
-pub mod Division
 pub mod Product
-pub mod ProductDegree
+pub mod Division
 pub mod Power

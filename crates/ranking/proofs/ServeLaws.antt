@@ -1,7 +1,6 @@
 -- A page from the walk: from the root of the tree nothing is found yet, and when all is walked the ranked list's page stands in the slice; a
 -- position's pair is refused as judging refuses it; and the situations of a request are these in their order. Assumes nothing.
 use mathlib.Core.Path.{_≡_, refl, sym, ap, ap₂, _∙_}
-use mathlib.Core.Logic.{_⊎_, inl, inr}
 use mathlib.Core.Bool.{Bool, true, false, and-eq-true-iff}
 use mathlib.Core.List.{List, [], _∷_, _++_, append-assoc}
 use Prim.Native.Nat.{ℕ, suc, _+_, _-_, _/_, _≤_, _<_}
@@ -33,7 +32,7 @@ use Rattle.definitions.specs.declared.PageAnswer.the-variants.{Page, NoPage}
 use Rattle.fraction_laws.specs.Walk.{root-proper}
 use Rattle.fraction_laws.specs.Tree.{tree-def}
 use Rattle.order_laws.specs.Accepted.{accepted-is}
-use Rattle.page_laws.specs.Key.{cases}
+use Rattle.page_laws.specs.Key.{by-test}
 use Rattle.page_laws.specs.Search.{Search, offerAll, found, search-page, start-good}
 use Rattle.ranking_laws.specs.Met.{met, met-wide, tree-ranked, tValues-length}
 use Rattle.generator.specs.Lawful.{Lawful}
@@ -172,29 +171,18 @@ module _ (m p q : ℕ) {k : ℕ} {j : Judgement} (e : j ≡ pairJudgement m p q)
   never {n} g = let h : Accepted k ≡ Rejected n = sym f ∙ e ∙ g in let z : _≡_ {A = ℕ} 0 1 = cc in absurd (omega arith)
 
   pub judged-well-formed : wellFormed m p q ≡ true
-  judged-well-formed = pick (cases (wellFormed m p q))
-    where
-      pick : (wellFormed m p q ≡ true) ⊎ (wellFormed m p q ≡ false) → wellFormed m p q ≡ true
-      pick (inl t) = t
-      pick (inr t) = never (ill-formed m p q t)
+  judged-well-formed = by-test (wellFormed m p q) (λ t. t) (λ t. never (ill-formed m p q t))
 
   pub judged-accepted : accepted m p q ≡ true
-  judged-accepted = one (cases (primitive m p))
-    where
-      w : wellFormed m p q ≡ true
-      w = judged-well-formed
-
-      three : primitive m p ≡ true → linearQuotients p q ≡ true → (coprimeStep m p q ≡ true) ⊎ (coprimeStep m p q ≡ false) → accepted m p q ≡ true
-      three a b (inl c) = accepted-is m p q .1 (record { primitive-p = a; linear = b; coprime = c })
-      three a b (inr c) = never (not-coprime m p q w a b c)
-
-      two : primitive m p ≡ true → (linearQuotients p q ≡ true) ⊎ (linearQuotients p q ≡ false) → accepted m p q ≡ true
-      two a (inl b) = three a b (cases (coprimeStep m p q))
-      two a (inr b) = never (not-linear m p q w a b)
-
-      one : (primitive m p ≡ true) ⊎ (primitive m p ≡ false) → accepted m p q ≡ true
-      one (inl a) = two a (cases (linearQuotients p q))
-      one (inr a) = never (not-primitive m p q w a)
+  judged-accepted =
+      let w = judged-well-formed in
+      by-test (primitive m p)
+      (λ a. by-test (linearQuotients p q)
+      (λ b. by-test (coprimeStep m p q)
+      (λ c. accepted-is m p q .1 (record { primitive-p = a; linear = b; coprime = c }))
+      (λ c. never (not-coprime m p q w a b c)))
+      (λ b. never (not-linear m p q w a b)))
+      (λ a. never (not-primitive m p q w a))
 
 -- ---- a request
 

@@ -3,12 +3,12 @@
 -- are the ranked list. Assumes nothing.
 use mathlib.Core.Path.{_≡_, refl, sym, ap, _∙_}
 use mathlib.Core.Bool.{Bool, true, false}
-use mathlib.Core.List.{List, [], _∷_, _++_, map, List·Memᴰ, List·Nodup, Memᴰ·map, Memᴰ·of-map, Memᴰ·cast}
-use Prim.Native.Nat.{ℕ, suc, _+_, _-_, _≤_}
+use mathlib.Core.List.{List, [], _∷_, _++_, map, List·Memᴰ, List·Nodup, map-map, Memᴰ·map, Memᴰ·of-map, Memᴰ·cast}
+use Prim.Native.Nat.{ℕ, suc, _-_, _≤_}
 use native.Mathlib.Omega.{arith}
-use lib.ListN.{length, drop}
+use lib.ListN.{length, drop, length-map}
 use lib.Seq.{drop-at}
-use Rattle.definitions.specs.Number.{numbers, keep, putIf}
+use Rattle.definitions.specs.Number.{numbers, keep}
 use Rattle.definitions.specs.Generator.{Pair, accepted, step, tree}
 use Rattle.definitions.specs.Net.{tValue}
 use Rattle.definitions.specs.Pages.{sort}
@@ -16,7 +16,9 @@ use Rattle.definitions.specs.Ranking.{leastTop, rowWidth, tValues, row, rowKey,
 use Rattle.number_laws.specs.Lists.{numbers-length, keep-in, keep-out, keep-once, map-once}
 use Rattle.fraction_laws.specs.Tree.{tree-sound, tree-complete, tree-once}
 use Rattle.order_laws.specs.Accepted.{accepted-is}
-use Rattle.page_laws.specs.Insertion.{Distinct, distinct-once, sort-same}
+use Rattle.page_laws.specs.Key.{by-test}
+use Rattle.page_laws.specs.Members.{Within}
+use Rattle.page_laws.specs.Insertion.{sort-same}
 use Rattle.page_laws.specs.Rows.{Wide}
 use Rattle.ranking_laws.specs.Pairs.{allPairs-in, allPairs-out, allPairs-once}
 
@@ -44,25 +46,12 @@ row-key m top p q = refl
 
 -- ---- widths
 
-map-length : {X Y : Type 0} (f : X → Y) (l : List X) → length (map f l) ≡ length l
-map-length f [] = refl
-map-length f (x ∷ l) = ap suc (map-length f l)
-
 pub tValues-length : (m top p q : ℕ) → length (tValues m top p q) ≡ suc top - leastTop
 unfolding tValues
-tValues-length m top p q = map-length (tValue m p q) (numbers leastTop (suc top - leastTop)) ∙ numbers-length leastTop (suc top - leastTop)
+tValues-length m top p q = length-map (numbers leastTop (suc top - leastTop)) (tValue m p q) ∙ numbers-length leastTop (suc top - leastTop)
 
 pub row-length : (m top p q : ℕ) → leastTop ≤ top → length (row m top p q) ≡ rowWidth top
 row-length m top p q h = rw (row-def m top p q) (omega (arith, tValues-length m top p q))
-
-wide-map : (m top : ℕ) → leastTop ≤ top → (l : List Pair) → Wide (rowWidth top) (map (rowOf m top) l)
-unfolding Wide
-wide-map m top h [] = tt
-wide-map m top h (s ∷ l) = (row-length m top (s .p) (s .q) h, wide-map m top h l)
-
-pub met-wide : (m top : ℕ) → leastTop ≤ top → (l : List Pair) → Wide (rowWidth top) (met m top l)
-unfolding met
-met-wide m top h l = wide-map m top h (keep (isAccepted m) l)
 
 -- ---- lists of pairs taken apart
 
@@ -81,21 +70,12 @@ met-less m top s l t = rw t
 pub met-append : (m top : ℕ) (a b : List Pair) → met m top (a ++ b) ≡ met m top a ++ met m top b
 unfolding met keep
 met-append m top [] b = refl
-met-append m top (s ∷ a) b = go (isAccepted m s) (met-append m top a b)
-  where
-    go : (t : Bool) → met m top (a ++ b) ≡ met m top a ++ met m top b
-        → map (rowOf m top) (putIf t s (keep (isAccepted m) (a ++ b))) ≡ map (rowOf m top) (putIf t s (keep (isAccepted m) a)) ++ met m top b
-    go true ih = ap (λ (l : List (List ℕ)). rowOf m top s ∷ l) ih
-    go false ih = ih
+met-append m top (s ∷ a) b = by-test (isAccepted m s) (λ t. rw (t, met-append m top a b)) (λ f. rw f (met-append m top a b))
 
 pub met-length : (m top : ℕ) (l : List Pair) → length (met m top l) ≤ length l
 unfolding met keep
 met-length m top [] = omega arith
-met-length m top (s ∷ l) = go (isAccepted m s) (met-length m top l)
-  where
-    go : (t : Bool) → length (met m top l) ≤ length l → length (map (rowOf m top) (putIf t s (keep (isAccepted m) l))) ≤ suc (length l)
-    go true ih = omega arith
-    go false ih = omega arith
+met-length m top (s ∷ l) = by-test (isAccepted m s) (λ t. rw t (omega (arith, met-length m top l))) (λ f. rw f (omega (arith, met-length m top l)))
 
 -- ---- members
 
@@ -116,6 +96,9 @@ met-out m top l r i =
     let j = keep-out (isAccepted m) l (k .1) in
     record { pair = k .0; listed = j .0; passes = j .1; is = k .2 }
 
+pub met-wide : (m top : ℕ) → leastTop ≤ top → (l : List Pair) → Wide (rowWidth top) (met m top l)
+met-wide m top h l r i = let a = met-out m top l r i in rw (← a .is) (row-length m top (a .pair .p) (a .pair .q) h)
+
 -- ---- keys tell pairs apart
 
 pub row-key-apart : (m top : ℕ) (s t : Pair) → rowKey (row m top (s .p) (s .q)) ≡ rowKey (row m top (t .p) (t .q)) → s ≡ t
@@ -129,34 +112,26 @@ row-key-apart m top s t e =
     let second : s .q ≡ t .q = cc in
     λ i. record { p = first i; q = second i }
 
-pub met-distinct : (m top : ℕ) (l : List Pair) → List·Nodup l → Distinct rowKey (met m top l)
-met-distinct m top l n =
-    distinct-once rowKey (met m top l)
-    (unfold met in map-once (rowOf m top) (keep (isAccepted m) l) (λ s t u v e. row-key-apart m top s t (ap rowKey e)) (keep-once (isAccepted m) l n))
-    (λ x y u v e.
-    let a = met-out m top l x u in
-    let b = met-out m top l y v in
-    sym (a .is) ∙ ap (rowOf m top) (row-key-apart m top (a .pair) (b .pair) (ap rowKey (a .is) ∙ e ∙ sym (ap rowKey (b .is)))) ∙ b .is)
+pub met-once : (m top : ℕ) (l : List Pair) → List·Nodup l → List·Nodup (map rowKey (met m top l))
+unfolding met
+met-once m top l n =
+    rw (map-map rowKey (rowOf m top) (keep (isAccepted m) l))
+    (map-once (λ (s : Pair). rowKey (rowOf m top s)) (keep (isAccepted m) l) (λ s t u v e. row-key-apart m top s t e) (keep-once (isAccepted m) l n))
 
 -- ---- the tree has them all
 
-pub tree-met-all : (m top : ℕ) → 1 ≤ m → (r : List ℕ) → List·Memᴰ r (met m top (tree m)) → List·Memᴰ r (met m top (allPairs m))
-tree-met-all m top h r i =
-    let a = met-out m top (tree m) r i in
-    Memᴰ·cast (sym (a .is)) (met-in m top (allPairs m) (a .pair) (allPairs-in m (a .pair) (tree-sound m (a .pair) h (a .listed) .well-formed)) (a .passes))
-
-pub all-met-tree : (m top : ℕ) (r : List ℕ) → List·Memᴰ r (met m top (allPairs m)) → List·Memᴰ r (met m top (tree m))
-all-met-tree m top r i =
-    let a = met-out m top (allPairs m) r i in
-    Memᴰ·cast (sym (a .is))
-    (met-in m top (tree m) (a .pair)
-    (tree-complete m (a .pair)
-    (record { well-formed = allPairs-out m (a .pair) (a .listed); quotients = accepted-is m (a .pair .p) (a .pair .q) .0 (a .passes) .linear }))
-    (a .passes))
+-- Where the accepted pairs of one list are in another, so are the rows met.
+met-within : (m top : ℕ) (l k : List Pair) → ((s : Pair) → List·Memᴰ s l → accepted m (s .p) (s .q) ≡ true → List·Memᴰ s k)
+    → Within (met m top l) (met m top k)
+met-within m top l k f r i =
+    let a = met-out m top l r i in
+    Memᴰ·cast (sym (a .is)) (met-in m top k (a .pair) (f (a .pair) (a .listed) (a .passes)) (a .passes))
 
 -- The rows met on the tree, sorted, are the ranked list.
 pub tree-ranked : (m top : ℕ) → 1 ≤ m → sort rowKey (met m top (tree m)) ≡ ranked m top
 tree-ranked m top h =
-    sort-same rowKey (met m top (tree m)) (met m top (allPairs m)) (met-distinct m top (tree m) (tree-once m))
-    (met-distinct m top (allPairs m) (allPairs-once m)) (tree-met-all m top h) (all-met-tree m top)
+    sort-same rowKey (met m top (tree m)) (met m top (allPairs m)) (met-once m top (tree m) (tree-once m)) (met-once m top (allPairs m) (allPairs-once m))
+    (met-within m top (tree m) (allPairs m) (λ s i t. allPairs-in m s (tree-sound m s h i .well-formed)))
+    (met-within m top (allPairs m) (tree m)
+    (λ s i t. tree-complete m s (record { well-formed = allPairs-out m s i; quotients = accepted-is m (s .p) (s .q) .0 t .linear })))
     ∙ sym (ranked-def m top)

@@ -10,18 +10,17 @@ use Rattle.definitions.specs.Ranking.{leastTop, rowWidth, row, rowKey, allPairs
 use Rattle.page_laws.specs.Ascending.{Ascends, ascends-once}
 use Rattle.page_laws.specs.Insertion.{sort-in, sort-out, sort-ascends}
 use Rattle.page_laws.specs.Rows.{Wide}
-use Rattle.page_laws.specs.Search.{wide-sort}
 use Rattle.ranking_laws.specs.Pairs.{allPairs-in, allPairs-out, allPairs-once}
-use Rattle.ranking_laws.specs.Met.{met, ranked-def, met-in, met-out, met-distinct, met-wide}
+use Rattle.ranking_laws.specs.Met.{met, ranked-def, met-in, met-out, met-once, met-wide}
 
 pub ranked-ascends : (m top : ℕ) → Ascends rowKey start (ranked m top)
-ranked-ascends m top = rw ranked-def (sort-ascends rowKey (met m top (allPairs m)) (met-distinct m top (allPairs m) (allPairs-once m)))
+ranked-ascends m top = rw ranked-def (sort-ascends rowKey (met m top (allPairs m)) (met-once m top (allPairs m) (allPairs-once m)))
 
 pub ranked-once : (m top : ℕ) → List·Nodup (ranked m top)
 ranked-once m top = ascends-once rowKey start (ranked m top) (ranked-ascends m top)
 
 pub ranked-wide : (m top : ℕ) → leastTop ≤ top → Wide (rowWidth top) (ranked m top)
-ranked-wide m top h = rw ranked-def (wide-sort rowKey (rowWidth top) (met m top (allPairs m)) (met-wide m top h (allPairs m)))
+ranked-wide m top h = rw ranked-def (λ r i. met-wide m top h (allPairs m) r (sort-out rowKey (met m top (allPairs m)) r i))
 
 -- A row of the ranked list, with its pair.
 pub record RankedRow (m top : ℕ) (r : List ℕ) : Type 0 where
@@ -33,9 +32,9 @@ pub record RankedRow (m top : ℕ) (r : List ℕ) : Type 0 where
 pub ranked-in : (m top : ℕ) (s : Pair) → wellFormed m (s .p) (s .q) ≡ true → accepted m (s .p) (s .q) ≡ true
     → List·Memᴰ (row m top (s .p) (s .q)) (ranked m top)
 ranked-in m top s w t =
-    rw ranked-def (sort-in rowKey (row m top (s .p) (s .q)) (met m top (allPairs m)) (met-in m top (allPairs m) s (allPairs-in m s w) t))
+    rw ranked-def (sort-in rowKey (met m top (allPairs m)) (row m top (s .p) (s .q)) (met-in m top (allPairs m) s (allPairs-in m s w) t))
 
 pub ranked-out : (m top : ℕ) (r : List ℕ) → List·Memᴰ r (ranked m top) → RankedRow m top r
 ranked-out m top r i =
-    let a = met-out m top (allPairs m) r (sort-out rowKey r (met m top (allPairs m)) (rw ranked-def at i)) in
+    let a = met-out m top (allPairs m) r (sort-out rowKey (met m top (allPairs m)) r (rw ranked-def at i)) in
     record { pair = a .pair; well-formed = allPairs-out m (a .pair) (a .listed); passes = a .passes; is = a .is }

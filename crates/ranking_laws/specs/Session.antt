@@ -1,7 +1,7 @@
 -- DEMAND 3: whoever asks for page after page, each time after the last row received, with any slices that hold a row, reads the ranked
 -- list. Each answer is a page of it (no request on the way is refused, since the last row's pair is accepted), the place after that pair is
 -- the place behind the page, and so the session is a walk through pages of a list that ascends. Assumes nothing.
-use mathlib.Core.Path.{_≡_, refl, sym, ap, ap₂, _∙_, subst}
+use mathlib.Core.Path.{_≡_, refl, sym, ap, ap₂, _∙_}
 use mathlib.Core.Bool.{Bool, true, false, and-eq-true-iff}
 use mathlib.Core.List.{List, [], _∷_, List·Memᴰ, List·Memᴰ·head, List·Memᴰ·tail}
 use Prim.Native.Nat.{ℕ, suc, _+_, _/_, _≤_}
@@ -14,8 +14,8 @@ use borrow.Author.Tests.{le-ltb, ltb-true, leb-true}
 use Rattle.definitions.specs.Number.{join}
 use Rattle.definitions.specs.Answers.{unless}
 use Rattle.definitions.specs.Generator.{lawfulDegree, wellFormed, accepted}
-use Rattle.definitions.specs.Pages.{Place, after, above, rest, page, more, laid}
-use Rattle.definitions.specs.Ranking.{lawfulTop, leastTop, largestTop, rowWidth, row, rowKey, ranked, placeOf}
+use Rattle.definitions.specs.Pages.{Place, after, rest, page, more, laid}
+use Rattle.definitions.specs.Ranking.{lawfulTop, leastTop, largestTop, rowWidth, rowKey, ranked, placeOf}
 use Rattle.definitions.specs.Calls.{paging, positionSituations, pairSituations, pageRows, furtherRow, pageAnswer, pageSlice}
 use Rattle.definitions.specs.Honest.{unless-both}
 use Rattle.definitions.specs.declared.Refusal.{Refusal}
@@ -23,9 +23,8 @@ use Rattle.definitions.specs.declared.Position.{Position}
 use Rattle.definitions.specs.declared.Position.the-variants.{Start, After}
 use Rattle.definitions.specs.declared.PageRequest.{PageRequest}
 use Rattle.definitions.specs.declared.PageAnswer.the-variants.{Page, NoPage}
-use Rattle.number_laws.specs.Lists.{keep-out}
 use Rattle.order_laws.specs.Accepted.{accepted-is}
-use Rattle.page_laws.specs.Slot.{take-member}
+use Rattle.page_laws.specs.Members.{page-out}
 use Rattle.page_laws.specs.Rows.{rowsOf, laid-rows}
 use Rattle.page_laws.specs.Search.{wide-page}
 use Rattle.page_laws.specs.Walk.{behind, Walk, ends, goes, walk-ends, walk-whole}
@@ -57,51 +56,38 @@ pub data Session (m top : ℕ) (lent : ℕ → List ℕ) : Position → ℕ → 
 
 -- ---- the last row of a page
 
-last-listed : (x : List ℕ) (rows : List (List ℕ)) → List·Memᴰ (lastRow x rows) (x ∷ rows)
+last-listed : (rows : List (List ℕ)) → 1 ≤ length rows → List·Memᴰ (lastRow [] rows) rows
 unfolding lastRow
-last-listed x [] = List·Memᴰ·head refl
-last-listed x (y ∷ rows) = List·Memᴰ·tail (last-listed y rows)
+last-listed [] h = absurd (omega arith)
+last-listed (x ∷ []) h = List·Memᴰ·head refl
+last-listed (x ∷ y ∷ rows) h = List·Memᴰ·tail (last-listed (y ∷ rows) (omega arith))
 
-behind-row : (at : Place) (x : List ℕ) (rows : List (List ℕ)) → behind rowKey at (x ∷ rows) ≡ after (rowKey (lastRow x rows))
+behind-last : (at : Place) (rows : List (List ℕ)) → 1 ≤ length rows → behind rowKey at rows ≡ after (rowKey (lastRow [] rows))
 unfolding behind lastRow
-behind-row at x [] = refl
-behind-row at x (y ∷ rows) = behind-row (after (rowKey x)) y rows
+behind-last at [] h = absurd (omega arith)
+behind-last at (x ∷ []) h = refl
+behind-last at (x ∷ y ∷ rows) h = behind-last (after (rowKey x)) (y ∷ rows) (omega arith)
 
 module _ (m top : ℕ) where
-  -- A row of the ranked list is the row of the pair that it begins with.
-  row-again : (r : List ℕ) → RankedRow m top r → row m top (getD r 0 0) (getD r 1 0) ≡ r
-  row-again r k =
-      let e : r ≡ row m top (k .pair .p) (k .pair .q) = sym (k .is) in
-      ap₂ (row m top) (ap (λ (l : List ℕ). getD l 0 0) (e ∙ row-def m top (k .pair .p) (k .pair .q)))
-      (ap (λ (l : List ℕ). getD l 1 0) (e ∙ row-def m top (k .pair .p) (k .pair .q)))
-      ∙ k .is
-
-  page-listed : (at : Place) (k : ℕ) (r : List ℕ) → List·Memᴰ r (page rowKey at k (ranked m top)) → List·Memᴰ r (ranked m top)
-  unfolding page rest
-  page-listed at k r i =
-      keep-out (λ (x : List ℕ). above at (rowKey x)) (ranked m top) (take-member rowKey k (rest rowKey at (ranked m top)) r i) .0
-
-  place-last : (at : Place) (rows : List (List ℕ)) → 1 ≤ length rows → ((r : List ℕ) → List·Memᴰ r rows → RankedRow m top r)
-      → placeOf m top (afterLast rows) ≡ behind rowKey at rows
-  unfolding placeOf lastRow
-  place-last at [] h f = absurd (omega arith)
-  place-last at (x ∷ rows) h f = ap (λ (r : List ℕ). after (rowKey r)) (row-again (lastRow x rows) (f (lastRow x rows) (last-listed x rows))) ∙ sym (behind-row at x rows)
-
   -- A position that no request refuses: the start, or after an accepted pair.
   data Lawful : Position → Type 0 where
     lawful-start : Lawful Start
     lawful-after : {p q : ℕ} → wellFormed m p q ≡ true → accepted m p q ≡ true → Lawful (After p q)
 
-  lawful-last : (rows : List (List ℕ)) → 1 ≤ length rows → ((r : List ℕ) → List·Memᴰ r rows → RankedRow m top r) → Lawful (afterLast rows)
-  unfolding lastRow
-  lawful-last [] h f = absurd (omega arith)
-  lawful-last (x ∷ rows) h f =
-      let r : List ℕ = lastRow x rows in
-      let k : RankedRow m top r = f r (last-listed x rows) in
-      let e : r ≡ row m top (k .pair .p) (k .pair .q) = sym (k .is) in
-      let a : getD r 0 0 ≡ k .pair .p = ap (λ (l : List ℕ). getD l 0 0) (e ∙ row-def m top (k .pair .p) (k .pair .q)) in
-      let b : getD r 1 0 ≡ k .pair .q = ap (λ (l : List ℕ). getD l 1 0) (e ∙ row-def m top (k .pair .p) (k .pair .q)) in
-      lawful-after (ap₂ (wellFormed m) a b ∙ k .well-formed) (ap₂ (accepted m) a b ∙ k .passes)
+  -- A row of the ranked list begins with its pair.
+  row-pair : {r : List ℕ} (k : RankedRow m top r) → (getD r 0 0 ≡ k .pair .p) × (getD r 1 0 ≡ k .pair .q)
+  row-pair k = rw (← k .is, row-def) (refl, refl)
+
+  module _ (rows : List (List ℕ)) (some : 1 ≤ length rows) (each : (r : List ℕ) → List·Memᴰ r rows → RankedRow m top r) where
+    last-row : RankedRow m top (lastRow [] rows)
+    last-row = each (lastRow [] rows) (last-listed rows some)
+
+    place-last : (at : Place) → placeOf m top (afterLast rows) ≡ behind rowKey at rows
+    unfolding placeOf
+    place-last at = rw (row-pair last-row .0, row-pair last-row .1, last-row .is) (sym (behind-last at rows some))
+
+    lawful-last : Lawful (afterLast rows)
+    lawful-last = rw (row-pair last-row .0, row-pair last-row .1) (lawful-after (last-row .well-formed) (last-row .passes))
 
   module _ (lawful-degree : lawfulDegree m ≡ true) (lawful-top : lawfulTop top ≡ true) (lent : ℕ → List ℕ) (room : (i : ℕ) → rowWidth top ≤ length (lent i)) where
     cap : ℕ → ℕ
@@ -148,7 +134,7 @@ module _ (m top : ℕ) where
 
     ranked-rows : (at : Position) (i : ℕ) (r : List ℕ) → List·Memᴰ r (rowsAt at i) → RankedRow m top r
     unfolding rowsAt
-    ranked-rows at i r k = ranked-out m top r (page-listed (placeOf m top at) (cap i) r k)
+    ranked-rows at i r k = ranked-out m top r (page-out rowKey (placeOf m top at) (cap i) (ranked m top) k .0)
 
     -- A page that is followed by another has a row.
     some-row : (at : Position) (i : ℕ) → more rowKey (placeOf m top at) (cap i) (ranked m top) ≡ true → 1 ≤ length (rowsAt at i)
@@ -159,19 +145,15 @@ module _ (m top : ℕ) where
 
     next-place : (at : Position) (i : ℕ) → more rowKey (placeOf m top at) (cap i) (ranked m top) ≡ true
         → placeOf m top (afterLast (rowsAt at i)) ≡ behind rowKey (placeOf m top at) (rowsAt at i)
-    next-place at i t = place-last (placeOf m top at) (rowsAt at i) (some-row at i t) (ranked-rows at i)
+    next-place at i t = place-last (rowsAt at i) (some-row at i t) (ranked-rows at i) (placeOf m top at)
 
     walks : {at : Position} {i : ℕ} {ps : List (List (List ℕ))} → Session m top lent at i ps → Walk rowKey cap (ranked m top) (placeOf m top at) i ps
     unfolding rowsAt
-    walks (closes {at = at} {i = i} {n = n} e) =
-        subst (λ (p : List (List ℕ)). Walk rowKey cap (ranked m top) (placeOf m top at) i (p ∷ [])) (sym (told-rows at i n false e)) (ends (told-more at i n false e))
-    walks (goes-on {at = at} {i = i} {n = n} {ps = ps} e w) =
-        let t = told-more at i n true e in
-        let r = told-rows at i n true e in
-        let g : placeOf m top (afterLast (received m top at (lent i) n)) ≡ behind rowKey (placeOf m top at) (rowsAt at i) =
-        ap (λ (rows : List (List ℕ)). placeOf m top (afterLast rows)) r ∙ next-place at i t in
-        subst (λ (p : List (List ℕ)). Walk rowKey cap (ranked m top) (placeOf m top at) i (p ∷ ps)) (sym r)
-        (goes t (subst (λ (x : Place). Walk rowKey cap (ranked m top) x (suc i) ps) g (walks w)))
+    walks (closes {at = at} {i = i} {n = n} e) = rw (told-rows at i n false e) (ends (told-more at i n false e))
+    walks (goes-on {at = at} {i = i} {n = n} e w) =
+        let rows = told-rows at i n true e in
+        let more-rows = told-more at i n true e in
+        rw rows (goes more-rows (rw (rows, next-place at i more-rows) at (walks w)))
 
     answered : {at : Position} → Lawful at → (i : ℕ)
         → pageAnswer (asks m top at) (lent i) ≡ Page (length (rowsAt at i)) (more rowKey (placeOf m top at) (cap i) (ranked m top))
@@ -183,28 +165,29 @@ module _ (m top : ℕ) where
 
     sessions : {x : Place} {i : ℕ} {ps : List (List (List ℕ))} → Walk rowKey cap (ranked m top) x i ps
         → (at : Position) → placeOf m top at ≡ x → Lawful at → Session m top lent at i ps
+    unfolding rowsAt
     sessions (ends {at = x} {i = i} t) at e l =
-        let f = answered l i ∙ ap (Page (length (rowsAt at i))) (ap (λ (y : Place). more rowKey y (cap i) (ranked m top)) e ∙ t) in
-        subst (λ (p : List (List ℕ)). Session m top lent at i (p ∷ [])) (told-rows at i (length (rowsAt at i)) false f ∙ unfold rowsAt in ap (λ (y : Place). page rowKey y (cap i) (ranked m top)) e) (closes f)
+        let u : more rowKey (placeOf m top at) (cap i) (ranked m top) ≡ false = rw e t in
+        let f = answered l i ∙ ap (Page (length (rowsAt at i))) u in
+        let same : rowsAt at i ≡ page rowKey x (cap i) (ranked m top) = rw e in
+        rw (← (told-rows at i (length (rowsAt at i)) false f ∙ same)) (closes f)
     sessions (goes {at = x} {i = i} {ps = ps} t w) at e l =
-        let u : more rowKey (placeOf m top at) (cap i) (ranked m top) ≡ true = ap (λ (y : Place). more rowKey y (cap i) (ranked m top)) e ∙ t in
+        let u : more rowKey (placeOf m top at) (cap i) (ranked m top) ≡ true = rw e t in
         let f = answered l i ∙ ap (Page (length (rowsAt at i))) u in
         let r = told-rows at i (length (rowsAt at i)) true f in
-        let same : rowsAt at i ≡ page rowKey x (cap i) (ranked m top) = unfold rowsAt in ap (λ (y : Place). page rowKey y (cap i) (ranked m top)) e in
-        let next : placeOf m top (afterLast (rowsAt at i)) ≡ behind rowKey x (page rowKey x (cap i) (ranked m top)) =
-        next-place at i u ∙ ap₂ (behind rowKey) e same in
-        let s : Session m top lent (afterLast (rowsAt at i)) (suc i) ps = sessions w (afterLast (rowsAt at i)) next (lawful-last (rowsAt at i) (some-row at i u) (ranked-rows at i)) in
-        subst (λ (p : List (List ℕ)). Session m top lent at i (p ∷ ps)) (r ∙ same)
-        (goes-on f (subst (λ (rows : List (List ℕ)). Session m top lent (afterLast rows) (suc i) ps) (sym r) s))
+        let same : rowsAt at i ≡ page rowKey x (cap i) (ranked m top) = rw e in
+        let next = next-place at i u ∙ ap₂ (behind rowKey) e same in
+        let s = sessions w (afterLast (rowsAt at i)) next (lawful-last (rowsAt at i) (some-row at i u) (ranked-rows at i)) in
+        rw (← (r ∙ same)) (goes-on f (rw (← r) at s))
 
     -- There is a session from the start, so it ends.
     pub session-ends : (ps : List (List (List ℕ))) × Session m top lent Start 0 ps
     unfolding placeOf
     session-ends =
-        let w = walk-ends rowKey cap cap-full (ranked m top) (ranked-ascends m top) in
+        let w = walk-ends rowKey (ranked m top) (ranked-ascends m top) cap cap-full in
         (w .0, sessions (w .1) Start refl lawful-start)
 
     -- The rows read in each session from the start, joined, are the ranked list, and it asks for at most one page more than there are rows.
     pub session-whole : {ps : List (List (List ℕ))} → Session m top lent Start 0 ps → (length ps ≤ length (ranked m top) + 1) × (join ps ≡ ranked m top)
     unfolding placeOf
-    session-whole s = walk-whole rowKey cap cap-full (ranked m top) (ranked-ascends m top) (walks s)
+    session-whole s = walk-whole rowKey (ranked m top) (ranked-ascends m top) cap cap-full (walks s)

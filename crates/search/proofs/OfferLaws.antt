@@ -13,11 +13,12 @@ use Rattle.definitions.specs.Generator.{Pair, primitive, linearQuotients, copri
 use Rattle.definitions.specs.Net.{tValue}
 use Rattle.definitions.specs.Pages.{before, above, after}
 use Rattle.definitions.specs.Ranking.{leastTop, rowKey, tValues}
+use Rattle.number_laws.specs.Truth.{truth-false}
 use Rattle.order_laws.specs.Accepted.{accepted-is}
-use Rattle.page_laws.specs.Key.{fails, not-both}
+use Rattle.page_laws.specs.Key.{not-both}
 use Rattle.page_laws.specs.Ascending.{above-start, above-after}
-use Rattle.page_laws.specs.Slot.{slot, slot-by-key, slot-most}
-use Rattle.page_laws.specs.Rows.{rowsOf, length-rows, Kept, inserted, inserted-none}
+use Rattle.page_laws.specs.Slot.{slot, slot-by-key}
+use Rattle.page_laws.specs.Rows.{rowsOf, slot-rows, Kept, inserted, inserted-none}
 use Rattle.page_laws.specs.Search.{Search, counted, offered-kept, offered-left, offer-one, offer-none}
 use Rattle.ranking_laws.specs.Met.{met, met-none, met-more, met-less, row-def, row-key}
 use Rattle.search.specs.Frame.{topOf, placeIf, placeFrom, offers, offer, Searching, Keeping}
@@ -86,7 +87,7 @@ module _ (f : Frame) (p q n : ℕ) (out w : List ℕ) (k : Keeping f n out) (b :
       → _≡_ {A = Kept} (record { out = out; n = n }) (inserted rowKey (f .width) (f .capacity) (rowIn f p q) (record { out = out; n = n }))
   left-out {at} e h =
       let g : at ≡ slot rowKey (rowIn f p q) (rowsOf (f .width) n out) = slot-known e in
-      let most : at ≤ n = omega (arith, slot-most rowKey (rowIn f p q) (rowsOf (f .width) n out), length-rows (f .width) n out, g) in
+      let most = slot-rows rowKey (f .width) (rowIn f p q) out n in
       inserted-none rowKey (f .width) (f .capacity) (rowIn f p q) out n at g (omega (arith, k .few)) (omega (arith, k .few))
 
 -- ---- a row offered
@@ -132,11 +133,11 @@ module _ (f : Frame) (last : List ℕ) (s : Search) (p q : ℕ) where
 
   pub pair-not-primitive : primitive (f .degree) p ≡ false → s ≡ offers f last (met (f .degree) (topOf f) (pair p q ∷ [])) s
   pair-not-primitive e =
-      met-nothing (fails (accepted (f .degree) p q) (λ (t : accepted (f .degree) p q ≡ true). not-both (accepted-is (f .degree) p q .0 t .primitive-p) e))
+      met-nothing (truth-false (accepted (f .degree) p q) (λ t. not-both (accepted-is (f .degree) p q .0 t .primitive-p) e))
 
   pub pair-not-coprime : coprimeStep (f .degree) p q ≡ false → s ≡ offers f last (met (f .degree) (topOf f) (pair p q ∷ [])) s
   pair-not-coprime e =
-      met-nothing (fails (accepted (f .degree) p q) (λ (t : accepted (f .degree) p q ≡ true). not-both (accepted-is (f .degree) p q .0 t .coprime) e))
+      met-nothing (truth-false (accepted (f .degree) p q) (λ t. not-both (accepted-is (f .degree) p q .0 t .coprime) e))
 
   pub pair-accepted : primitive (f .degree) p ≡ true → linearQuotients p q ≡ true → coprimeStep (f .degree) p q ≡ true → accepted (f .degree) p q ≡ true
   pair-accepted a b c = accepted-is (f .degree) p q .1 (record { primitive-p = a; linear = b; coprime = c })

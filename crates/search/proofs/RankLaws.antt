@@ -17,9 +17,9 @@ use Rattle.definitions.specs.Net.{tValue}
 use Rattle.definitions.specs.Pages.{before, above, after}
 use Rattle.definitions.specs.Ranking.{leastTop, rowKey}
 use Rattle.page_laws.specs.Key.{before-prefix, before-asym}
-use Rattle.page_laws.specs.Ascending.{above-after, lower-after}
-use Rattle.page_laws.specs.Slot.{slot-up, getD-member}
-use Rattle.page_laws.specs.Rows.{rowsOf, row-at, length-rows}
+use Rattle.page_laws.specs.Members.{getD-member}
+use Rattle.page_laws.specs.Ascending.{above-after, above-trans}
+use Rattle.page_laws.specs.Rows.{rowsOf, row-at, length-rows, slot-rows-up}
 use Rattle.page_laws.specs.Search.{Search}
 use Rattle.ranking_laws.specs.Met.{row-def, row-length}
 use Rattle.search.specs.Frame.{topOf, placeIf, placeFrom, Searching}
@@ -139,7 +139,7 @@ module _ {f : Frame} {last : List ℕ} {x : Search} (p q : ℕ) (w : List ℕ) (
       ∙ before-asym (rowKey (rowIn f p q)) (rowKey (take (f .width) last)) before-last
 
   pub high-known : (eqb (x .n) (f .capacity) && before (ranksOf s (drop ((x .n - 1) * f .width) (x .out))) (ranksOf s w)) ≡ true → Weighed f last x p q w High
-  unfolding Weighed above
+  unfolding Weighed
   high-known t =
       let n : ℕ = x .n in
       let behind : List ℕ = drop ((n - 1) * f .width) (x .out) in
@@ -156,15 +156,14 @@ module _ {f : Frame} {last : List ℕ} {x : Search} (p q : ℕ) (w : List ℕ) (
       let rows : List (List ℕ) = rowsOf (f .width) n (x .out) in
       let is-last : getD rows (n - 1) [] ≡ take (f .width) behind = row-at (f .width) n (n - 1) (x .out) (omega arith) in
       let inside : n - 1 < length rows = omega (arith, length-rows (f .width) n (x .out)) in (
-        lower-after (placeFrom f last) (rowKey (take (f .width) behind))
-            (ap (λ (u : List ℕ). above (placeFrom f last) (rowKey u)) (sym is-last) ∙ r .good .high (getD rows (n - 1) []) (getD-member rowKey [] rows (n - 1) inside))
-            (rowKey (rowIn f p q)) before-row,
+        above-trans (placeFrom f last) (rowKey (take (f .width) behind)) (rowKey (rowIn f p q))
+            (ap (λ (u : List ℕ). above (placeFrom f last) (rowKey u)) (sym is-last) ∙ r .good .high (getD rows (n - 1) []) (getD-member [] rows (n - 1) inside)) before-row,
         full,
         omega (
           arith,
           full,
-          slot-up rowKey (rowIn f p q) [] rows (n - 1) (r .good .order) inside
-              (ap (λ (u : List ℕ). before (rowKey (rowIn f p q)) (rowKey u)) is-last ∙ before-asym (rowKey (take (f .width) behind)) (rowKey (rowIn f p q)) before-row),
+          slot-rows-up rowKey (f .width) (rowIn f p q) (x .out) n (n - 1) (omega arith) (r .good .order)
+              (before-asym (rowKey (take (f .width) behind)) (rowKey (rowIn f p q)) before-row),
         ),
       )
     where

@@ -10,9 +10,6 @@ use Rattle.generator.specs.Judging.{judgement-unlawful, judgement-lawful
 use Rattle.generator.proofs.judge.Statement.{statement}
 use Rattle.generator.proofs.judge.Tie as tie
 
-is-lawful-degree-requires : tie.Need-is-lawful-degree-requires
-is-lawful-degree-requires c κs = search needs
-
 returns : tie.Need-returns
 returns c = sym (judgement-unlawful _ _ _ (sym (c .before .is-lawful-degree .ensures) ∙ not-true _ (c .if1 .taken)))
 
@@ -26,4 +23,4 @@ returns-2 : tie.Need-returns-2
 returns-2 c = c .judge-pair .ensures ∙ sym (judgement-lawful _ _ _ (lawful (c .before)))
 
 pub judge-spec : {M : Type 1} → statement M
-judge-spec = tie.close (tie.spec is-lawful-degree-requires returns judge-pair-requires returns-2)
+judge-spec = tie.close (tie.spec (λ c κs. search needs) returns judge-pair-requires returns-2)

@@ -6,12 +6,6 @@ use borrow.Author.Needs.{needs}
 use Rattle.interface.proofs.fenyurka_lookup.Statement.{statement}
 use Rattle.interface.proofs.fenyurka_lookup.Tie as tie
 
-seek-requires : tie.Need-seek-requires
-seek-requires c κs = search needs
-
-enum-known-i : tie.Need-enum-known-i
-enum-known-i c = search needs
-
 entry-top-requires : tie.Need-entry-top-requires
 entry-top-requires c κs = seek-located _ _ _ (sym (c .before .before .before .seek .ensures) ∙ c .before .i .given .1) .contents
 
@@ -20,15 +14,6 @@ entry-rows-requires c κs = seek-located _ _ _ (sym (c .before .before .before .
 
 entry-offset-requires : tie.Need-entry-offset-requires
 entry-offset-requires c κs = seek-located _ _ _ (sym (c .before .before .before .before .before .seek .ensures) ∙ c .before .before .before .i .given .1) .contents
-
-cast-offset : tie.Need-cast-offset
-cast-offset c = search needs
-
-enum-known-refusal : tie.Need-enum-known-refusal
-enum-known-refusal c = search needs
-
-refusal-number-requires : tie.Need-refusal-number-requires
-refusal-number-requires c κs = search needs
 
 returns : tie.Need-returns
 returns c =
@@ -49,14 +34,5 @@ returns-2 c =
 pub fenyurka-lookup-spec : {M : Type 1} → statement M
 fenyurka-lookup-spec =
     tie.close
-    (tie.spec
-    seek-requires
-    enum-known-i
-    entry-top-requires
-    entry-rows-requires
-    entry-offset-requires
-    cast-offset
-    enum-known-refusal
-    refusal-number-requires
-    returns
-    returns-2)
+    (tie.spec (λ c κs. search needs) (λ c. search needs) entry-top-requires entry-rows-requires entry-offset-requires (λ c. search needs)
+    (λ c. search needs) (λ c κs. search needs) returns returns-2)

@@ -7,29 +7,11 @@ use borrow.Author.Needs.{needs}
 use Rattle.interface.proofs.fenyurka_points.Statement.{statement}
 use Rattle.interface.proofs.fenyurka_points.Tie as tie
 
-points-requires : tie.Need-points-requires
-points-requires c κs = search needs
-
-enum-known-found : tie.Need-enum-known-found
-enum-known-found c = search needs
-
-enum-known-refusal : tie.Need-enum-known-refusal
-enum-known-refusal c = search needs
-
-refusal-number-requires : tie.Need-refusal-number-requires
-refusal-number-requires c κs = search needs
-
-same-length : tie.Need-same-length
-same-length c = search needs
-
 returns : tie.Need-returns
 returns c =
     let answer = c .before .before .before .before .before .points .ensures in
     let same = same-values pointsValues (c .before .found .given .1) (answer .0) in
     (same 0 0, (answer .1, same 1 _))
-
-same-length-2 : tie.Need-same-length-2
-same-length-2 c = search needs
 
 returns-2 : tie.Need-returns-2
 returns-2 c =
@@ -40,12 +22,5 @@ returns-2 c =
 pub fenyurka-points-spec : {M : Type 1} → statement M
 fenyurka-points-spec =
     tie.close
-    (tie.spec
-    points-requires
-    enum-known-found
-    enum-known-refusal
-    refusal-number-requires
-    same-length
-    returns
-    same-length-2
-    returns-2)
+    (tie.spec (λ c κs. search needs) (λ c. search needs) (λ c. search needs) (λ c κs. search needs) (λ c. search needs) returns
+    (λ c. search needs) returns-2)

@@ -7,18 +7,6 @@ use borrow.Author.Needs.{needs}
 use Rattle.interface.proofs.fenyurka_row.Statement.{statement}
 use Rattle.interface.proofs.fenyurka_row.Tie as tie
 
-row-at-requires : tie.Need-row-at-requires
-row-at-requires c κs = search needs
-
-enum-known-found : tie.Need-enum-known-found
-enum-known-found c = search needs
-
-add-width : tie.Need-add-width
-add-width c = search needs
-
-refusal-number-requires : tie.Need-refusal-number-requires
-refusal-number-requires c κs = search needs
-
 returns : tie.Need-returns
 returns c =
     let told = c .before .before .before .found .given .1 in
@@ -30,15 +18,6 @@ write-requires c κs =
     let given = c .before .before .before .before .before .before .before .before .args in
     let width = found-width _ _ (given .body .now) _ _ (sym (c .before .before .before .before .before .row-at .ensures) ∙ c .before .before .before .found .given .1) in
     (omega arith, omega arith)
-
-place-behind-requires : tie.Need-place-behind-requires
-place-behind-requires c κs = search needs
-
-enum-told : tie.Need-enum-told
-enum-told c = search needs
-
-same-length : tie.Need-same-length
-same-length c = search needs
 
 returns-2 : tie.Need-returns-2
 returns-2 c =
@@ -52,15 +31,5 @@ returns-3 c = handed-end _ _ _ _ _ (sym (c .before .before .row-at .ensures) ∙
 pub fenyurka-row-spec : {M : Type 1} → statement M
 fenyurka-row-spec =
     tie.close
-    (tie.spec
-    row-at-requires
-    enum-known-found
-    add-width
-    refusal-number-requires
-    returns
-    write-requires
-    place-behind-requires
-    enum-told
-    same-length
-    returns-2
-    returns-3)
+    (tie.spec (λ c κs. search needs) (λ c. search needs) (λ c. search needs) (λ c κs. search needs) returns write-requires
+    (λ c κs. search needs) (λ c. search needs) (λ c. search needs) returns-2 returns-3)

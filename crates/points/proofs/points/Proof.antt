@@ -14,9 +14,6 @@ use Rattle.points.specs.Answering.{answered-unlawful, answered-rejected,
 use Rattle.points.proofs.points.Statement.{statement}
 use Rattle.points.proofs.points.Tie as tie
 
-is-lawful-degree-requires : tie.Need-is-lawful-degree-requires
-is-lawful-degree-requires c κs = search needs
-
 returns : tie.Need-returns
 returns c = answered-unlawful _ _ _ _ _ (sym (c .before .is-lawful-degree .ensures) ∙ not-true _ (c .if1 .taken))
 
@@ -28,12 +25,6 @@ covered c = lawful-is _ .0 (lawful c)
 
 judge-pair-requires : tie.Need-judge-pair-requires
 judge-pair-requires c κs = covered c
-
-enum-known-refusal : tie.Need-enum-known-refusal
-enum-known-refusal c = search needs
-
-enum-told : tie.Need-enum-told
-enum-told c = search needs
 
 leading-term-requires : tie.Need-leading-term-requires
 leading-term-requires c κs = covered (c .before .before .before)
@@ -47,15 +38,6 @@ returns-2 c =
     let told = c .before .before .enum-told .given in
     answered-beyond _ _ _ _ _ (lawful at) (told .0 .0) (sym (c .before .before .before .before .judge-pair .ensures) ∙ told .1) (omega (arith, c .before .leading-term .ensures))
 
-cast-smaller : tie.Need-cast-smaller
-cast-smaller c = search needs
-
-add-smaller : tie.Need-add-smaller
-add-smaller c = search needs
-
-smaller-requires : tie.Need-smaller-requires
-smaller-requires c κs = search needs
-
 write-requires : tie.Need-write-requires
 write-requires c κs =
     let at = c .before .before .before .before .before .before .before in
@@ -66,9 +48,6 @@ returns-3 : tie.Need-returns-3
 returns-3 c =
     let told = c .before .refusal .given in
     answered-rejected _ _ _ _ _ (lawful (c .before .before .before .before)) (told .0 .0) (sym (c .before .before .before .judge-pair .ensures) ∙ told .1)
-
-same-length : tie.Need-same-length
-same-length c = search needs
 
 returns-4 : tie.Need-returns-4
 returns-4 c =
@@ -84,19 +63,5 @@ returns-4 c =
 pub points-spec : {M : Type 1} → statement M
 points-spec =
     tie.close
-    (tie.spec
-    is-lawful-degree-requires
-    returns
-    judge-pair-requires
-    enum-known-refusal
-    enum-told
-    leading-term-requires
-    sub-last
-    returns-2
-    cast-smaller
-    add-smaller
-    smaller-requires
-    write-requires
-    returns-3
-    same-length
-    returns-4)
+    (tie.spec (λ c κs. search needs) returns judge-pair-requires (λ c. search needs) (λ c. search needs) leading-term-requires sub-last
+    returns-2 (λ c. search needs) (λ c. search needs) (λ c κs. search needs) write-requires returns-3 (λ c. search needs) returns-4)

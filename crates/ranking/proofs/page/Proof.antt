@@ -7,17 +7,11 @@ use borrow.Author.Needs.{needs}
 use Rattle.ranking.proofs.page.Statement.{statement}
 use Rattle.ranking.proofs.page.Tie as tie
 
-is-lawful-degree-requires : tie.Need-is-lawful-degree-requires
-is-lawful-degree-requires c κs = search needs
-
 returns : tie.Need-returns
 returns c =
     let g = c .before .before .before .args in
     let d = sym (c .before .is-lawful-degree .ensures) ∙ not-true _ (c .if1 .taken) in
     (laws.wrong-degree-answer (g .request) (g .out .now) d, laws.wrong-degree-slice (g .request) (g .out .now) d)
-
-is-lawful-top-requires : tie.Need-is-lawful-top-requires
-is-lawful-top-requires c κs = search needs
 
 returns-2 : tie.Need-returns-2
 returns-2 c =
@@ -26,9 +20,6 @@ returns-2 c =
     let t = sym (c .before .is-lawful-top .ensures) ∙ not-true _ (c .if2 .taken) in
     (laws.wrong-top-answer (g .request) (g .out .now) d t, laws.wrong-top-slice (g .request) (g .out .now) d t)
 
-enum-told : tie.Need-enum-told
-enum-told c = search needs
-
 first-page-requires : tie.Need-first-page-requires
 first-page-requires c κs =
     let g = c .before .before .before .before .before .before .before .before .args in
@@ -36,18 +27,12 @@ first-page-requires c κs =
     let t = sym (c .before .before .before .before .is-lawful-top .ensures) ∙ not-false _ (c .before .before .before .if2 .left) in
     (lawful-is (g .request .degree) .0 d, laws.lawful-top (g .request .top) t)
 
-enum-known-position : tie.Need-enum-known-position
-enum-known-position c = search needs
-
 next-page-requires : tie.Need-next-page-requires
 next-page-requires c κs =
     let g = c .before .before .before .before .before .before .before .before .before .args in
     let d = sym (c .before .before .before .before .before .before .before .is-lawful-degree .ensures) ∙ not-false _ (c .before .before .before .before .before .before .if1 .left) in
     let t = sym (c .before .before .before .before .before .is-lawful-top .ensures) ∙ not-false _ (c .before .before .before .before .if2 .left) in
     (lawful-is (g .request .degree) .0 d, laws.lawful-top (g .request .top) t)
-
-same-length : tie.Need-same-length
-same-length c = search needs
 
 returns-3 : tie.Need-returns-3
 returns-3 c =
@@ -58,9 +43,6 @@ returns-3 c =
       laws.start-answer (g .request) (g .out .now) d t told (c .before .before .first-page .ensures .0),
       laws.start-slice (g .request) (g .out .now) d t told (c .before .before .first-page .ensures .1),
     )
-
-same-length-2 : tie.Need-same-length-2
-same-length-2 c = search needs
 
 returns-4 : tie.Need-returns-4
 returns-4 c =
@@ -75,16 +57,5 @@ returns-4 c =
 pub page-spec : {M : Type 1} → statement M
 page-spec =
     tie.close
-    (tie.spec
-    is-lawful-degree-requires
-    returns
-    is-lawful-top-requires
-    returns-2
-    enum-told
-    first-page-requires
-    enum-known-position
-    next-page-requires
-    same-length
-    returns-3
-    same-length-2
-    returns-4)
+    (tie.spec (λ c κs. search needs) returns (λ c κs. search needs) returns-2 (λ c. search needs) first-page-requires (λ c. search needs)
+    next-page-requires (λ c. search needs) returns-3 (λ c. search needs) returns-4)

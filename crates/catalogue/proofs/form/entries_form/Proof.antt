@@ -12,62 +12,62 @@ use borrow.Author.Needs.{needs}
 use Rattle.catalogue.proofs.form.entries_form.Statement.{statement}
 use Rattle.catalogue.proofs.form.entries_form.Tie as tie
 
-abbrev Inv-loop : tie.InvT-loop
-Inv-loop s n left₀ i₀ last₀ at₀ left i last at = (left + i ≡ n) × (at ≤ length s) × (entriesForm s n 0 0 (1 + 8 * n) ≡ entriesForm s left i last at)
+abbrev RestDecides : tie.InvT-loop
+RestDecides s n left₀ i₀ last₀ at₀ left i last at = (left + i ≡ n) × (at ≤ length s) × (entriesForm s n 0 0 (1 + 8 * n) ≡ entriesForm s left i last at)
 
-abbrev μ-loop : tie.MeasureT-loop
-μ-loop s n left₀ i₀ last₀ at₀ left i last at = left
+abbrev remaining : tie.MeasureT-loop
+remaining s n left₀ i₀ last₀ at₀ left i last at = left
 
 -- The entry of this turn is of the form, so its body is within the file; its degree is the one read.
-passed : (c : tie.Else1 Inv-loop μ-loop)
+passed : (c : tie.Else1 RestDecides remaining)
     → entryForm (c .before .before .before .before .before .args .s .now) (entryAt (c .before .before .before .before .before .args .s .now) (c .before .before .before .loop .i)) (c .before .before .before .loop .last) (c .before .before .before .loop .at) ≡ true
 passed c = sym (c .before .entry-form .ensures) ∙ not-false _ (c .if1 .left)
 
-size-within : (c : tie.Else1 Inv-loop μ-loop)
+size-within : (c : tie.Else1 RestDecides remaining)
     → c .before .before .before .loop .at + bodySize (entryAt (c .before .before .before .before .before .args .s .now) (c .before .before .before .loop .i)) ≤ length (c .before .before .before .before .before .args .s .now)
 size-within c = entry-within _ _ _ _ (passed c)
 
-last-is : (c : tie.After-entry-degree Inv-loop μ-loop) → c .entry-degree .result ≡ entryAt (c .before .before .before .before .before .before .args .s .now) (c .before .before .before .before .loop .i) .degree
+last-is : (c : tie.After-entry-degree RestDecides remaining) → c .entry-degree .result ≡ entryAt (c .before .before .before .before .before .before .args .s .now) (c .before .before .before .before .loop .i) .degree
 last-is c = c .entry-degree .ensures
 
-mul-at : tie.Need-mul-at Inv-loop μ-loop
+mul-at : tie.Need-mul-at RestDecides remaining
 mul-at c = search needs
 
-add-at : tie.Need-add-at Inv-loop μ-loop
+add-at : tie.Need-add-at RestDecides remaining
 add-at c = search needs
 
-loop-holds : tie.Need-loop-holds Inv-loop μ-loop
+loop-holds : tie.Need-loop-holds RestDecides remaining
 loop-holds c = (omega arith, c .before .pre, refl)
 
-entry-form-requires : tie.Need-entry-form-requires Inv-loop μ-loop
+entry-form-requires : tie.Need-entry-form-requires RestDecides remaining
 entry-form-requires c κs = search needs
 
-returns : tie.Need-returns Inv-loop μ-loop
+returns : tie.Need-returns RestDecides remaining
 returns c = let at = c .before .before .before in
     let s = at .before .before .args .s .now in
     let l = at .loop in
     sym (l .inv .2 ∙ entries-stop s (l .left) (l .i) (l .last) (l .at) (search needs) (sym (c .before .entry-form .ensures) ∙ not-true _ (c .if1 .taken)))
 
-entry-degree-requires : tie.Need-entry-degree-requires Inv-loop μ-loop
+entry-degree-requires : tie.Need-entry-degree-requires RestDecides remaining
 entry-degree-requires c κs = search needs
 
-body-size-requires : tie.Need-body-size-requires Inv-loop μ-loop
+body-size-requires : tie.Need-body-size-requires RestDecides remaining
 body-size-requires c κs = search needs
 
-add-at-2 : tie.Need-add-at-2 Inv-loop μ-loop
+add-at-2 : tie.Need-add-at-2 RestDecides remaining
 add-at-2 c = let fits = size-within (c .before .before) in
     omega (arith, c .body-size .ensures)
 
-sub-left : tie.Need-sub-left Inv-loop μ-loop
+sub-left : tie.Need-sub-left RestDecides remaining
 sub-left c = search needs
 
-add-i : tie.Need-add-i Inv-loop μ-loop
+add-i : tie.Need-add-i RestDecides remaining
 add-i c = search needs
 
-loop-less : tie.Need-loop-less Inv-loop μ-loop
+loop-less : tie.Need-loop-less RestDecides remaining
 loop-less c = search needs
 
-loop-again : tie.Need-loop-again Inv-loop μ-loop
+loop-again : tie.Need-loop-again RestDecides remaining
 loop-again c = let at = c .before .before .before .before .before in
     let s = at .before .before .args .s .now in
     let l = at .loop in
@@ -76,15 +76,15 @@ loop-again c = let at = c .before .before .before .before .before in
     let size = c .body-size .ensures in
     (omega arith, omega arith, l .inv .2 ∙ entries-on s (l .left) (l .i) (l .last) (l .at) (search needs) (passed (c .before .before)) ∙ rw (last, size))
 
-returns-2 : tie.Need-returns-2 Inv-loop μ-loop
+returns-2 : tie.Need-returns-2 RestDecides remaining
 returns-2 c = let l = c .before .loop in sym (l .inv .2 ∙ entries-end _ (l .left) (l .i) (l .last) (l .at) (omega arith))
 
 pub entries-form-spec : {M : Type 1} → statement M
 entries-form-spec =
     tie.close
     (tie.spec
-    Inv-loop
-    μ-loop
+    RestDecides
+    remaining
     mul-at
     add-at
     loop-holds

@@ -4,11 +4,8 @@ use Rattle.generator.specs.Lawful.{top-is}
 use Rattle.generator.proofs.degrees.leading_term.Statement.{statement}
 use Rattle.generator.proofs.degrees.leading_term.Tie as tie
 
-shl-result : tie.Need-shl-result
-shl-result c = search needs
-
 returns : tie.Need-returns
 returns c = top-is (c .pre)
 
 pub leading-term-spec : {M : Type 1} → statement M
-leading-term-spec = tie.close (tie.spec shl-result returns)
+leading-term-spec = tie.close (tie.spec (λ c. search needs) returns)

@@ -12,9 +12,6 @@ use Rattle.generator.specs.Lawful.{top-high}
 use Rattle.generator.proofs.pair.is_well_formed.Statement.{statement}
 use Rattle.generator.proofs.pair.is_well_formed.Tie as tie
 
-leading-term-requires : tie.Need-leading-term-requires
-leading-term-requires c κs = search needs
-
 returns : tie.Need-returns
 returns c = sym (truth-false _ (λ t. omega (arith, wellFormed-is _ _ _ .0 t .degree-p .least)))
 
@@ -43,5 +40,4 @@ returns-4 c =
     )
 
 pub is-well-formed-spec : {M : Type 1} → statement M
-is-well-formed-spec =
-    tie.close (tie.spec leading-term-requires returns mul-if2 returns-2 returns-3 returns-4)
+is-well-formed-spec = tie.close (tie.spec (λ c κs. search needs) returns mul-if2 returns-2 returns-3 returns-4)

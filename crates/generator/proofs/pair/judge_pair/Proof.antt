@@ -15,9 +15,6 @@ use Rattle.generator.specs.Judging.{ill-formed, not-primitive, not-linea
 use Rattle.generator.proofs.pair.judge_pair.Statement.{statement}
 use Rattle.generator.proofs.pair.judge_pair.Tie as tie
 
-is-well-formed-requires : tie.Need-is-well-formed-requires
-is-well-formed-requires c κs = search needs
-
 returns : tie.Need-returns
 returns c = sym (ill-formed _ _ _ (sym (c .before .is-well-formed .ensures) ∙ not-true _ (c .if1 .taken)))
 
@@ -35,9 +32,6 @@ returns-2 c = sym (not-primitive _ _ _ (well-formed (c .before .before)) (sym (c
 
 is-primitive : (c : tie.Else2) → primitive (c .before .before .before .before .args .m) (c .before .before .before .before .args .p) ≡ true
 is-primitive c = sym (c .before .is-primitive .ensures) ∙ not-false _ (c .if2 .left)
-
-leading-term-requires : tie.Need-leading-term-requires
-leading-term-requires c κs = search needs
 
 linear-quotients-requires : tie.Need-linear-quotients-requires
 linear-quotients-requires c κs =
@@ -58,9 +52,6 @@ find-step-requires c κs =
 
 sub-gcd-of : tie.Need-sub-gcd-of
 sub-gcd-of c = omega (arith, top-low (c .before .before .before .before .before .before .before .before .pre), c .before .before .before .leading-term .ensures)
-
-gcd-of-requires : tie.Need-gcd-of-requires
-gcd-of-requires c κs = search needs
 
 -- what `gcd_of` gave
 divisor : (c : tie.After-gcd-of) →
@@ -86,16 +77,5 @@ returns-5 c =
 pub judge-pair-spec : {M : Type 1} → statement M
 judge-pair-spec =
     tie.close
-    (tie.spec
-    is-well-formed-requires
-    returns
-    is-primitive-requires
-    returns-2
-    leading-term-requires
-    linear-quotients-requires
-    returns-3
-    find-step-requires
-    sub-gcd-of
-    gcd-of-requires
-    returns-4
-    returns-5)
+    (tie.spec (λ c κs. search needs) returns is-primitive-requires returns-2 (λ c κs. search needs) linear-quotients-requires returns-3
+    find-step-requires sub-gcd-of (λ c κs. search needs) returns-4 returns-5)

@@ -27,14 +27,8 @@ Inv-loop m p q top i₀ i = LeftFrom m (recurs p q) i × (i ≤ places)
 abbrev μ-loop : tie.MeasureT-loop
 μ-loop m p q top i₀ i = places - i
 
-leading-term-requires : tie.Need-leading-term-requires Inv-loop μ-loop
-leading-term-requires c κs = search needs
-
 loop-holds : tie.Need-loop-holds Inv-loop μ-loop
 loop-holds c = (refl, omega arith)
-
-divisor-requires : tie.Need-divisor-requires Inv-loop μ-loop
-divisor-requires c κs = search needs
 
 -- what the test over the table says
 meaning : (m p q : ℕ) → Lawful m → WellFormed m p q → primitive m p ≡ true → noneOf (recurs p q) (period m) (divisorsOf m) ≡ coprimeStep m p q
@@ -48,9 +42,6 @@ at-none c =
 
 sub-pow-mod : tie.Need-sub-pow-mod Inv-loop μ-loop
 sub-pow-mod c = omega (arith, top-low (c .before .before .before .before .before .pre .0))
-
-div-pow-mod : tie.Need-div-pow-mod Inv-loop μ-loop
-div-pow-mod c = search needs
 
 pow-mod-requires : tie.Need-pow-mod-requires Inv-loop μ-loop
 pow-mod-requires c κs =
@@ -75,12 +66,6 @@ returns-2 c =
     (eq-eqb _ 1 (sym (taken (c .before)) ∙ c .if2 .taken))
     ∙ meaning _ _ _ (pre .0) (pre .1 .0) (pre .1 .1)
 
-add-i : tie.Need-add-i Inv-loop μ-loop
-add-i c = search needs
-
-loop-less : tie.Need-loop-less Inv-loop μ-loop
-loop-less c = search needs
-
 loop-again : tie.Need-loop-again Inv-loop μ-loop
 loop-again c = (
   left-more _ (c .before .before .before .before .before .before .before .pre .0) _ _ _
@@ -99,18 +84,5 @@ returns-3 c =
 pub has-full-order-spec : {M : Type 1} → statement M
 has-full-order-spec =
     tie.close
-    (tie.spec
-    Inv-loop
-    μ-loop
-    leading-term-requires
-    loop-holds
-    divisor-requires
-    at-none
-    sub-pow-mod
-    div-pow-mod
-    pow-mod-requires
-    returns-2
-    add-i
-    loop-less
-    loop-again
-    returns-3)
+    (tie.spec Inv-loop μ-loop (λ c κs. search needs) loop-holds (λ c κs. search needs) at-none sub-pow-mod (λ c. search needs) pow-mod-requires
+    returns-2 (λ c. search needs) (λ c. search needs) loop-again returns-3)

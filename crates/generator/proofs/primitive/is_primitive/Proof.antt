@@ -37,16 +37,10 @@ even c =
     let pre = c .before .pre in
     sym (even-not-primitive _ _ (omega (arith, pre .0 .low)) (positive (pre .1)) (c .if1 .taken))
 
-parity-requires : tie.Need-parity-requires
-parity-requires c κs = search needs
-
 even-parity : tie.Need-returns-2
 even-parity c =
     let pre = c .before .before .before .pre in
     sym (even-parity-not-primitive _ _ (pre .0 .low) (pre .1) (sym (c .before .parity .ensures) ∙ c .if2 .taken))
-
-leading-term-requires : tie.Need-leading-term-requires
-leading-term-requires c κs = search needs
 
 sub-pow-x : tie.Need-sub-pow-x
 sub-pow-x c = omega (arith, top-low (c .before .before .before .before .pre .0))
@@ -64,9 +58,6 @@ returns-3 c =
     let pre = c .before .before .before .before .before .before .pre in
     not-back _ _ (pre .0) (pre .1) (λ e. c .if3 .taken (taken (c .before) ∙ e))
 
-none-returns-requires : tie.Need-none-returns-requires
-none-returns-requires c κs = search needs
-
 returns-4 : tie.Need-returns-4
 returns-4 c =
     let pre = c .before .before .before .before .before .before .before .pre in
@@ -75,13 +66,4 @@ returns-4 c =
 pub is-primitive-spec : {M : Type 1} → statement M
 is-primitive-spec =
     tie.close
-    (tie.spec
-    even
-    parity-requires
-    even-parity
-    leading-term-requires
-    sub-pow-x
-    pow-x-requires
-    returns-3
-    none-returns-requires
-    returns-4)
+    (tie.spec even (λ c κs. search needs) even-parity (λ c κs. search needs) sub-pow-x pow-x-requires returns-3 (λ c κs. search needs) returns-4)

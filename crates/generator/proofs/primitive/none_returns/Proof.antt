@@ -20,14 +20,8 @@ Inv-loop m p top i₀ i = LeftFrom m (returns p) i × (i ≤ places)
 abbrev μ-loop : tie.MeasureT-loop
 μ-loop m p top i₀ i = places - i
 
-leading-term-requires : tie.Need-leading-term-requires Inv-loop μ-loop
-leading-term-requires c κs = search needs
-
 loop-holds : tie.Need-loop-holds Inv-loop μ-loop
 loop-holds c = (refl, omega arith)
-
-divisor-requires : tie.Need-divisor-requires Inv-loop μ-loop
-divisor-requires c κs = search needs
 
 at-none : tie.Need-returns Inv-loop μ-loop
 at-none c =
@@ -36,9 +30,6 @@ at-none c =
 
 sub-pow-x : tie.Need-sub-pow-x Inv-loop μ-loop
 sub-pow-x c = omega (arith, top-low (c .before .before .before .before .before .pre .0))
-
-div-pow-x : tie.Need-div-pow-x Inv-loop μ-loop
-div-pow-x c = search needs
 
 pow-x-requires : tie.Need-pow-x-requires Inv-loop μ-loop
 pow-x-requires c κs =
@@ -58,12 +49,6 @@ returns-2 c =
     (c .before .before .if1 .left)
     (eq-eqb _ 1 (sym (taken (c .before)) ∙ c .if2 .taken))
 
-add-i : tie.Need-add-i Inv-loop μ-loop
-add-i c = search needs
-
-loop-less : tie.Need-loop-less Inv-loop μ-loop
-loop-less c = search needs
-
 loop-again : tie.Need-loop-again Inv-loop μ-loop
 loop-again c = (
   left-more _ (c .before .before .before .before .before .before .before .pre .0) _ _ _
@@ -80,18 +65,5 @@ returns-3 c = left-end _ (c .before .before .before .pre .0) _ _ (c .before .loo
 pub none-returns-spec : {M : Type 1} → statement M
 none-returns-spec =
     tie.close
-    (tie.spec
-    Inv-loop
-    μ-loop
-    leading-term-requires
-    loop-holds
-    divisor-requires
-    at-none
-    sub-pow-x
-    div-pow-x
-    pow-x-requires
-    returns-2
-    add-i
-    loop-less
-    loop-again
-    returns-3)
+    (tie.spec Inv-loop μ-loop (λ c κs. search needs) loop-holds (λ c κs. search needs) at-none sub-pow-x (λ c. search needs) pow-x-requires
+    returns-2 (λ c. search needs) (λ c. search needs) loop-again returns-3)

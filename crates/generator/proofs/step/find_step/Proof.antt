@@ -17,9 +17,6 @@ Inv-loop m p q top power₀ e₀ power e = At m p q power e × (power < top)
 abbrev μ-loop : tie.MeasureT-loop
 μ-loop m p q top power₀ e₀ power e = step m p q - e
 
-leading-term-requires : tie.Need-leading-term-requires Inv-loop μ-loop
-leading-term-requires c κs = search needs
-
 loop-holds : tie.Need-loop-holds Inv-loop μ-loop
 loop-holds c =
     let pre = c .before .pre in
@@ -54,15 +51,4 @@ returns c =
     at-found _ _ _ (pre .0) (pre .1 .0) (pre .1 .1) _ _ (c .before .loop .inv .0) (c .if1 .taken)
 
 pub find-step-spec : {M : Type 1} → statement M
-find-step-spec =
-    tie.close
-    (tie.spec
-    Inv-loop
-    μ-loop
-    leading-term-requires
-    loop-holds
-    times-x-requires
-    add-e
-    loop-less
-    loop-again
-    returns)
+find-step-spec = tie.close (tie.spec Inv-loop μ-loop (λ c κs. search needs) loop-holds times-x-requires add-e loop-less loop-again returns)

@@ -1,75 +1,54 @@
--- `rows::find_slot` finds the slot by halves. The invariant: the slot stands between low and high. The measure is the gap.
--- Assumes nothing.
-use mathlib.Core.Path.{sym, _∙_}
-use Prim.Native.Nat.{_+_, _-_, _/_, _≤_}
+-- `rows::find_slot` finds the slot by halves. The invariant: it stands between low and high. The measure is the gap. Assumes nothing.
+use Prim.Native.Nat.{_-_, _≤_}
 use native.Mathlib.Omega.{arith}
 use lib.ListN.{take}
+use Rattle.definitions.specs.Ranking.{rowKey}
+use Rattle.page_laws.specs.Slot.{slot}
+use Rattle.page_laws.specs.Rows.{rowsOf, slot-rows, slot-rows-down, slot-rows-up}
 use Rattle.insertion.proofs.RowLaws as laws
 use borrow.Author.Needs.{needs}
 use Rattle.insertion.proofs.rows.find_slot.Statement.{statement}
 use Rattle.insertion.proofs.rows.find_slot.Tie as tie
 
 abbrev Inv-loop : tie.InvT-loop
-Inv-loop out n w row low₀ high₀ low high = (low ≤ high) × (high ≤ n) × laws.Between w n (take w row) out low high
+Inv-loop out kept width row low₀ high₀ low high =
+    (low ≤ high) × (high ≤ kept) × (low ≤ slot rowKey (take width row) (rowsOf width kept out)) × (slot rowKey (take width row) (rowsOf width kept out) ≤ high)
 
 abbrev μ-loop : tie.MeasureT-loop
-μ-loop out n w row low₀ high₀ low high = high - low
+μ-loop out kept width row low₀ high₀ low high = high - low
 
-loop-holds : tie.Need-loop-holds Inv-loop μ-loop
-loop-holds c = (omega arith, omega arith, laws.between-all _ _ _ _)
+anywhere : tie.Need-loop-holds Inv-loop μ-loop
+anywhere c = (omega arith, omega arith, omega arith, slot-rows rowKey _ _ _ _)
 
-sub-mid : tie.Need-sub-mid Inv-loop μ-loop
-sub-mid c = search needs
-
-add-mid : tie.Need-add-mid Inv-loop μ-loop
-add-mid c = search needs
-
-mul-stands-before : tie.Need-mul-stands-before Inv-loop μ-loop
-mul-stands-before c =
+mid-row-counted : tie.Need-mul-stands-before Inv-loop μ-loop
+mid-row-counted c =
     let g = c .before .before .before .before .args in
-    let h = laws.row-in (g .w) (c .before .loop .low + (c .before .loop .high - c .before .loop .low) / 2) (g .n) (omega arith) in omega arith
+    omega (arith, laws.mid-in (g .width) (c .before .loop .low) (c .before .loop .high) (g .kept) (omega arith) (omega arith))
 
-stands-before-requires : tie.Need-stands-before-requires Inv-loop μ-loop
-stands-before-requires c κs =
+mid-row-inside : tie.Need-stands-before-requires Inv-loop μ-loop
+mid-row-inside c κs =
     let g = c .before .before .before .before .args in
-    let h = laws.row-in (g .w) (c .before .loop .low + (c .before .loop .high - c .before .loop .low) / 2) (g .n) (omega arith) in search needs
+    let inside = laws.mid-in (g .width) (c .before .loop .low) (c .before .loop .high) (g .kept) (omega arith) (omega arith) in
+    search needs
 
-loop-less : tie.Need-loop-less Inv-loop μ-loop
-loop-less c = search needs
+in-lower-half : tie.Need-loop-again Inv-loop μ-loop
+in-lower-half c =
+    let at = c .before .before .before in
+    let g = at .before .before .before .args in
+    let t = rw (c .before .stands-before .ensures) at (c .if1 .taken) in
+    (omega arith, omega arith, at .loop .inv .2, slot-rows-down rowKey (g .width) (take (g .width) (g .row .now)) (g .out .now) (g .kept) _ (omega arith) t)
 
-loop-again : tie.Need-loop-again Inv-loop μ-loop
-loop-again c =
-    let g = c .before .before .before .before .before .before .args in
-    (omega arith, omega arith, laws.between-low (g .w) (g .n) (take (g .w) (g .row .now)) (g .out .now) _ _ _ (c .before .before .before .loop .inv .2) (omega arith) (sym (c .before .stands-before .ensures) ∙ c .if1 .taken))
-
-add-low : tie.Need-add-low Inv-loop μ-loop
-add-low c = search needs
-
-loop-less-2 : tie.Need-loop-less-2 Inv-loop μ-loop
-loop-less-2 c = search needs
-
-loop-again-2 : tie.Need-loop-again-2 Inv-loop μ-loop
-loop-again-2 c =
-    let g = c .before .before .before .before .before .before .args in
-    (omega arith, omega arith, laws.between-high (g .w) (g .n) (take (g .w) (g .row .now)) (g .out .now) _ _ _ (c .before .before .before .loop .inv .2) (omega arith) (c .before .before .before .before .before .before .pre .3) (sym (c .before .stands-before .ensures) ∙ c .if1 .left))
-
-returns : tie.Need-returns Inv-loop μ-loop
-returns c = omega arith
+in-upper-half : tie.Need-loop-again-2 Inv-loop μ-loop
+in-upper-half c =
+    let at = c .before .before .before in
+    let e = at .before .before .before in
+    let g = e .args in
+    let f = rw (c .before .stands-before .ensures) at (c .if1 .left) in
+    let up = slot-rows-up rowKey (g .width) (take (g .width) (g .row .now)) (g .out .now) (g .kept) _ (omega arith) (e .pre .3) f in
+    (omega arith, omega arith, omega arith, at .loop .inv .3)
 
 pub find-slot-spec : {M : Type 1} → statement M
 find-slot-spec =
     tie.close
-    (tie.spec
-    Inv-loop
-    μ-loop
-    loop-holds
-    sub-mid
-    add-mid
-    mul-stands-before
-    stands-before-requires
-    loop-less
-    loop-again
-    add-low
-    loop-less-2
-    loop-again-2
-    returns)
+    (tie.spec Inv-loop μ-loop anywhere (λ c. search needs) (λ c. search needs) mid-row-counted mid-row-inside (λ c. search needs) in-lower-half
+    (λ c. search needs) (λ c. search needs) in-upper-half (λ c. omega arith))

@@ -1,5 +1,5 @@
--- `rows::ranks_before` compares the first t-values of two rows. The invariant: they compare as what is left of them from place k on. The
--- measure is what is left of them. Assumes nothing.
+-- `rows::ranks_before` compares t-values. The invariant: they compare as what is left of them from place k on. The measure is how much is left.
+-- Assumes nothing.
 use Prim.Native.Nat.{_-_, _≤_}
 use native.Mathlib.Omega.{arith}
 use Rattle.insertion.proofs.RowLaws as laws
@@ -13,57 +13,24 @@ Inv-loop a i b j s k₀ k = (3 ≤ k) × (k ≤ s) × laws.Left s i a j b k
 abbrev μ-loop : tie.MeasureT-loop
 μ-loop a i b j s k₀ k = s - k
 
-loop-holds : tie.Need-loop-holds Inv-loop μ-loop
-loop-holds c = (omega arith, omega arith, laws.left-all (c .args .s) (c .args .i) (c .args .j) (c .args .a .now) (c .args .b .now))
+all-left : tie.Need-loop-holds Inv-loop μ-loop
+all-left c = (omega arith, omega arith, laws.left-all (c .args .s) (c .args .i) (c .args .j) (c .args .a .now) (c .args .b .now))
 
-add-x : tie.Need-add-x Inv-loop μ-loop
-add-x c = search needs
+first-decides : tie.Need-returns Inv-loop μ-loop
+first-decides c =
+    let at = c .before .before .before .before in
+    laws.left-differ _ _ _ _ _ _ (at .before .pre) (at .loop .inv .2) (omega arith) (c .if1 .taken)
 
-mul-x : tie.Need-mul-x Inv-loop μ-loop
-mul-x c = search needs
+one-less-left : tie.Need-loop-again Inv-loop μ-loop
+one-less-left c =
+    let at = c .before .before .before .before in
+    (omega arith, omega arith, laws.left-more _ _ _ _ _ _ (at .before .pre) (at .loop .inv .2) (omega arith) (c .if1 .left))
 
-shared-slice-read-x : tie.Need-shared-slice-read-x Inv-loop μ-loop
-shared-slice-read-x c = search needs
-
-add-y : tie.Need-add-y Inv-loop μ-loop
-add-y c = search needs
-
-mul-y : tie.Need-mul-y Inv-loop μ-loop
-mul-y c = search needs
-
-shared-slice-read-y : tie.Need-shared-slice-read-y Inv-loop μ-loop
-shared-slice-read-y c = search needs
-
-returns : tie.Need-returns Inv-loop μ-loop
-returns c = laws.left-differ _ _ _ _ _ _ (c .before .before .before .before .before .pre) (c .before .before .before .before .loop .inv .2) (omega arith) (c .if1 .taken)
-
-add-k : tie.Need-add-k Inv-loop μ-loop
-add-k c = search needs
-
-loop-less : tie.Need-loop-less Inv-loop μ-loop
-loop-less c = search needs
-
-loop-again : tie.Need-loop-again Inv-loop μ-loop
-loop-again c = (omega arith, omega arith, laws.left-more _ _ _ _ _ _ (c .before .before .before .before .before .pre) (c .before .before .before .before .loop .inv .2) (omega arith) (c .if1 .left))
-
-returns-2 : tie.Need-returns-2 Inv-loop μ-loop
-returns-2 c = laws.left-none _ _ _ _ _ (c .before .loop .k) (c .before .before .pre) (c .before .loop .inv .2) (omega arith)
+none-left : tie.Need-returns-2 Inv-loop μ-loop
+none-left c = laws.left-none _ _ _ _ _ (c .before .loop .k) (c .before .before .pre) (c .before .loop .inv .2) (omega arith)
 
 pub ranks-before-spec : {M : Type 1} → statement M
 ranks-before-spec =
     tie.close
-    (tie.spec
-    Inv-loop
-    μ-loop
-    loop-holds
-    add-x
-    mul-x
-    shared-slice-read-x
-    add-y
-    mul-y
-    shared-slice-read-y
-    returns
-    add-k
-    loop-less
-    loop-again
-    returns-2)
+    (tie.spec Inv-loop μ-loop all-left (λ c. search needs) (λ c. search needs) (λ c. search needs) (λ c. search needs) (λ c. search needs)
+    (λ c. search needs) first-decides (λ c. search needs) (λ c. search needs) one-less-left none-left)

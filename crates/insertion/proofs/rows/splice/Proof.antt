@@ -5,19 +5,11 @@ use borrow.Author.Needs.{needs}
 use Rattle.insertion.proofs.rows.splice.Statement.{statement}
 use Rattle.insertion.proofs.rows.splice.Tie as tie
 
-shift-requires : tie.Need-shift-requires
-shift-requires c κs = search needs
-
-write-row-requires : tie.Need-write-row-requires
-write-row-requires c κs = search needs
-
-same-length : tie.Need-same-length
-same-length c = search needs
-
-returns : tie.Need-returns
-returns c =
+put-in : tie.Need-returns
+put-in c =
     let g = c .before .before .before .before .before .before .before .before .before .before .args in
-    laws.splice-done (g .from) (g .to) (g .w) (g .row .now) (g .out .now) (omega arith) (omega arith) (c .before .before .before .before .before .before .shift .ensures) (c .before .before .write-row .ensures)
+    rw (c .before .before .write-row .ensures, c .before .before .before .before .before .before .shift .ensures)
+    (laws.shifted-paste (g .from) (g .to) (g .width) (g .row .now) (g .out .now) (omega arith) (omega arith))
 
 pub splice-spec : {M : Type 1} → statement M
-splice-spec = tie.close (tie.spec shift-requires write-row-requires same-length returns)
+splice-spec = tie.close (tie.spec (λ c κs. search needs) (λ c κs. search needs) (λ c. search needs) put-in)

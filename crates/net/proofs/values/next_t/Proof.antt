@@ -1,68 +1,41 @@
--- `net::values::next_t` meets its contract: t(s - 1) stands for the weight that the search starts from. Assumes nothing.
-use Prim.Native.Nat.{_-_}
+-- `net::values::next_t` meets its contract: one level from what t(s - 1) leaves of m + 1. Assumes nothing.
+use mathlib.Core.Path.{_≡_, ap}
+use Prim.Native.Nat.{ℕ, _+_, _-_}
 use native.Mathlib.Omega.{arith}
 use borrow.Author.Needs.{needs}
-use Rattle.net.proofs.ValueLaws.{modulus-of, weight-more, weight-back, before-le, value-is}
+use Rattle.net_laws.specs.TValue.{tValue-most}
+use Rattle.net.proofs.ValueLaws.{modulus-of, rest-more, value-of}
 use Rattle.net.proofs.values.next_t.Statement.{statement}
 use Rattle.net.proofs.values.next_t.Tie as tie
-use Rattle.net.proofs.values.next_t.Reads as reads
-use Rattle.net.proofs.values.next_t.Lts as lts
-use Rattle.net.proofs.rows.powers.Reads as powers-reads
-use Rattle.net.proofs.search.level.Reads as level-reads
-
-shl-top : tie.Need-shl-top
-shl-top c = omega (arith, c .pre .0 .high)
-
-powers-requires : tie.Need-powers-requires
-powers-requires c κs = modulus-of (c .pre .0)
-
-sub-level : tie.Need-sub-level
-sub-level c = search needs
-
-add-level : tie.Need-add-level
-add-level c = search needs
 
 sub-level-2 : tie.Need-sub-level-2
-sub-level-2 c = let at = c .before in before-le (at .pre .0) (at .pre .1 .0) (at .args .s) (at .args .before) (at .pre .1 .1 .0 .0) (at .pre .1 .1 .1)
-
-cast-level : tie.Need-cast-level
-cast-level c = search needs
+sub-level-2 c = let at = c .before in omega (arith, at .pre .1 .1 .1, tValue-most _ _ (at .pre .0 .exactly) (at .args .q) (at .args .s - 1))
 
 level-requires : tie.Need-level-requires
-level-requires c κs =
-    let at = c .before .before in
-    (modulus-of (at .pre .0), (c .before .powers .ensures .1, omega (arith, at .pre .0 .high, at .pre .1 .0 .low, at .pre .1 .0 .high, at .pre .1 .1 .0)))
-
-add-result : tie.Need-add-result
-add-result c = search needs
-
-cast-result : tie.Need-cast-result
-cast-result c = omega (arith, c .level .ensures .less, c .before .before .before .pre .0 .high)
-
-sub-result : tie.Need-sub-result
-sub-result c = omega (arith, c .level .ensures .less)
+level-requires c κs = let at = c .before .before in (modulus-of (at .pre .0), (c .before .powers .ensures .1, omega (arith, at .pre .0 .high, at .pre .1)))
 
 returns : tie.Need-returns
 returns c =
     let at = c .before .before .before in
     let a = at .args in
-    let start = weight-back (at .pre .0) (at .pre .1 .0) (a .s) (a .before) (at .pre .1 .1 .0 .0) (at .pre .1 .1 .1) in
-    let found = c .level .ensures .found (a .q) (λ i l. c .before .before .powers .ensures .0 i (omega (arith, at .pre .1 .1 .0))) in
-    value-is (at .pre .0) (at .pre .1 .0) (a .s) (c .level .result) (omega (arith, at .pre .1 .1 .0))
-    (weight-more (a .degree) (a .p) (a .q) (a .bound) (a .s - 1) _ (c .level .result) (omega (arith, at .pre .1 .1 .0)) start found)
+    let last : a .s - 1 + 1 ≡ a .s = omega (arith, at .pre .1 .1 .0) in
+    rw last at
+    (value-of (at .pre .0) (a .q) (a .s - 1 + 1) (c .level .result)
+    (rest-more (at .pre .0) (a .q) (at .pre .1 .0) _ (c .before .before .powers .ensures .0) (a .s - 1) _ (c .level .result) (omega (arith, at .pre .1)) (omega (arith, at .pre .1))
+    (ap (λ (t : ℕ). a .degree + 1 - t) (at .pre .1 .1 .1)) (c .level .ensures)))
 
 pub next-t-spec : {M : Type 1} → statement M
 next-t-spec =
     tie.close
     (tie.spec
-    shl-top
-    powers-requires
-    sub-level
-    add-level
+    (λ c. search needs)
+    (λ c κs. modulus-of (c .pre .0))
+    (λ c. search needs)
+    (λ c. search needs)
     sub-level-2
-    cast-level
+    (λ c. search needs)
     level-requires
-    add-result
-    cast-result
-    sub-result
+    (λ c. search needs)
+    (λ c. omega (arith, c .level .ensures .less, c .before .before .before .pre .0 .high))
+    (λ c. omega (arith, c .level .ensures .less))
     returns)

@@ -18,23 +18,11 @@ Inv-loop m p q unit next₀ word₀ top n₀ next word n = Filling m p q unit n 
 abbrev μ-loop : tie.MeasureT-loop
 μ-loop m p q unit next₀ word₀ top n₀ next word n = size - n
 
-leading-term-requires : tie.Need-leading-term-requires Inv-loop μ-loop
-leading-term-requires c κs = search needs
-
-slice-write-next : tie.Need-slice-write-next Inv-loop μ-loop
-slice-write-next c = omega arith
-
-slice-write-word : tie.Need-slice-write-word Inv-loop μ-loop
-slice-write-word c = omega arith
-
 loop-holds : tie.Need-loop-holds Inv-loop μ-loop
 loop-holds c =
     let pre = c .before .before .before .pre in
     let args = c .before .before .before .args in
     filling-start _ _ _ _ (pre .1 .0 .degree-p) (pre .1 .1 .0) (now (args .next)) (now (args .word)) (pre .1 .1 .1 .0) (pre .1 .1 .1 .1)
-
-cast-y : tie.Need-cast-y Inv-loop μ-loop
-cast-y c = omega arith
 
 -- n times the unit is below 2^16
 small : (n unit : ℕ) → n < size → unit ≤ size → n * unit < size * size
@@ -112,25 +100,6 @@ returns-2 c =
 pub fill-spec : {M : Type 1} → statement M
 fill-spec =
     tie.close
-    (tie.spec
-    Inv-loop
-    μ-loop
-    leading-term-requires
-    slice-write-next
-    slice-write-word
-    loop-holds
-    cast-y
-    mul-y
-    same-length
-    same-length-2
-    returns
-    mul-mod-requires
-    spread-requires
-    word-of-requires
-    spread-requires-2
-    mul-n
-    loop-less
-    loop-again
-    same-length-3
-    same-length-4
-    returns-2)
+    (tie.spec Inv-loop μ-loop (λ c κs. search needs) (λ c. omega arith) (λ c. omega arith) loop-holds (λ c. omega arith) mul-y same-length
+    same-length-2 returns mul-mod-requires spread-requires word-of-requires spread-requires-2 mul-n loop-less loop-again same-length-3
+    same-length-4 returns-2)

@@ -17,9 +17,6 @@ Inv-loop m p y top word₀ rest₀ d₀ word rest d = Divided p y d word rest ×
 abbrev μ-loop : tie.MeasureT-loop
 μ-loop m p y top word₀ rest₀ d₀ word rest d = wordDigits - d
 
-leading-term-requires : tie.Need-leading-term-requires Inv-loop μ-loop
-leading-term-requires c κs = search needs
-
 loop-holds : tie.Need-loop-holds Inv-loop μ-loop
 loop-holds c = (divided-start _ _ (c .before .pre .1 .0) _ (c .before .pre .1 .1), omega arith)
 
@@ -47,12 +44,6 @@ times-x-requires c κs =
     rw (c .before .before .leading-term .ensures)
     (modulus _ _ (omega (arith, pre .0 .low)) (pre .1 .0), rest-lt _ _ (pre .1 .0) _ (pre .1 .1) _ _ _ (c .before .loop .inv .0))
 
-add-d : tie.Need-add-d Inv-loop μ-loop
-add-d c = search needs
-
-loop-less : tie.Need-loop-less Inv-loop μ-loop
-loop-less c = search needs
-
 loop-again : tie.Need-loop-again Inv-loop μ-loop
 loop-again c =
     let pre = c .before .before .before .before .pre in
@@ -66,17 +57,5 @@ returns c =
 pub word-of-spec : {M : Type 1} → statement M
 word-of-spec =
     tie.close
-    (tie.spec
-    Inv-loop
-    μ-loop
-    leading-term-requires
-    loop-holds
-    mul-word
-    mul-word-2
-    shr-word
-    add-word
-    times-x-requires
-    add-d
-    loop-less
-    loop-again
-    returns)
+    (tie.spec Inv-loop μ-loop (λ c κs. search needs) loop-holds mul-word mul-word-2 shr-word add-word times-x-requires (λ c. search needs)
+    (λ c. search needs) loop-again returns)

@@ -21,30 +21,15 @@ Inv-loop m p q first count out₀ top y₀ next-low word-low next-high word-high
 abbrev μ-loop : tie.MeasureT-loop
 μ-loop m p q first count out₀ top y₀ next-low word-low next-high word-high i₀ out y i = count - i
 
-leading-term-requires : tie.Need-leading-term-requires Inv-loop μ-loop
-leading-term-requires c κs = search needs
-
 pow-mod-requires : tie.Need-pow-mod-requires Inv-loop μ-loop
 pow-mod-requires c κs =
     let pre = c .before .before .pre in
     rw (c .leading-term .ensures) (modulus _ _ (omega (arith, pre .0 .low)) (pre .1 .0 .degree-p), pre .1 .0 .smaller)
 
-slice-aggregate-fill : tie.Need-slice-aggregate-fill Inv-loop μ-loop
-slice-aggregate-fill c = search needs
-
-slice-aggregate-fill-2 : tie.Need-slice-aggregate-fill-2 Inv-loop μ-loop
-slice-aggregate-fill-2 c = search needs
-
 fill-requires : tie.Need-fill-requires Inv-loop μ-loop
 fill-requires c κs =
     let pre = c .before .before .before .before .before .pre in
     (pre .0, (pre .1 .0, (lower-unit, (refl, refl))))
-
-slice-aggregate-fill-3 : tie.Need-slice-aggregate-fill-3 Inv-loop μ-loop
-slice-aggregate-fill-3 c = search needs
-
-slice-aggregate-fill-4 : tie.Need-slice-aggregate-fill-4 Inv-loop μ-loop
-slice-aggregate-fill-4 c = search needs
 
 fill-requires-2 : tie.Need-fill-requires-2 Inv-loop μ-loop
 fill-requires-2 c κs =
@@ -66,47 +51,11 @@ loop-holds c =
 state-small : (c : tie.In-loop Inv-loop μ-loop) → c .before .loop .y < size * size
 state-small c = omega (arith, c .before .loop .inv .1, top-high (c .before .before .before .before .before .before .before .before .before .before .before .before .before .before .before .pre .0))
 
-cast-low : tie.Need-cast-low Inv-loop μ-loop
-cast-low c = search needs
-
-cast-high : tie.Need-cast-high Inv-loop μ-loop
-cast-high c = search needs
-
-mul-out : tie.Need-mul-out Inv-loop μ-loop
-mul-out c = search needs
-
-array-read-out : tie.Need-array-read-out Inv-loop μ-loop
-array-read-out c = search needs
-
-mul-out-2 : tie.Need-mul-out-2 Inv-loop μ-loop
-mul-out-2 c = search needs
-
 array-read-out-2 : tie.Need-array-read-out-2 Inv-loop μ-loop
 array-read-out-2 c = omega (arith, state-small c)
 
-mul-out-3 : tie.Need-mul-out-3 Inv-loop μ-loop
-mul-out-3 c = search needs
-
-slice-write-out : tie.Need-slice-write-out Inv-loop μ-loop
-slice-write-out c = search needs
-
-mul-y : tie.Need-mul-y Inv-loop μ-loop
-mul-y c = search needs
-
-array-read-y : tie.Need-array-read-y Inv-loop μ-loop
-array-read-y c = search needs
-
-mul-y-2 : tie.Need-mul-y-2 Inv-loop μ-loop
-mul-y-2 c = search needs
-
 array-read-y-2 : tie.Need-array-read-y-2 Inv-loop μ-loop
 array-read-y-2 c = omega (arith, state-small c)
-
-add-i : tie.Need-add-i Inv-loop μ-loop
-add-i c = search needs
-
-loop-less : tie.Need-loop-less Inv-loop μ-loop
-loop-less c = search needs
 
 loop-again : tie.Need-loop-again Inv-loop μ-loop
 loop-again c =
@@ -126,32 +75,7 @@ returns c = writing-done _ _ _ _ _ _ _ _ (c .before .loop .inv .0) (c .loop-test
 pub write-spec : {M : Type 1} → statement M
 write-spec =
     tie.close
-    (tie.spec
-    Inv-loop
-    μ-loop
-    leading-term-requires
-    pow-mod-requires
-    slice-aggregate-fill
-    slice-aggregate-fill-2
-    fill-requires
-    slice-aggregate-fill-3
-    slice-aggregate-fill-4
-    fill-requires-2
-    loop-holds
-    cast-low
-    cast-high
-    mul-out
-    array-read-out
-    mul-out-2
-    array-read-out-2
-    mul-out-3
-    slice-write-out
-    mul-y
-    array-read-y
-    mul-y-2
-    array-read-y-2
-    add-i
-    loop-less
-    loop-again
-    same-length
-    returns)
+    (tie.spec Inv-loop μ-loop (λ c κs. search needs) pow-mod-requires (λ c. search needs) (λ c. search needs) fill-requires (λ c. search needs)
+    (λ c. search needs) fill-requires-2 loop-holds (λ c. search needs) (λ c. search needs) (λ c. search needs) (λ c. search needs)
+    (λ c. search needs) array-read-out-2 (λ c. search needs) (λ c. search needs) (λ c. search needs) (λ c. search needs) (λ c. search needs)
+    array-read-y-2 (λ c. search needs) (λ c. search needs) loop-again same-length returns)

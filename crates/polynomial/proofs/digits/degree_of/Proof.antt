@@ -4,11 +4,11 @@ use Rattle.polynomial.specs.Digits.{leading-degree}
 use Rattle.polynomial.proofs.digits.degree_of.Statement.{statement}
 use Rattle.polynomial.proofs.digits.degree_of.Tie as tie
 
-sub-result : tie.Need-sub-result
-sub-result c = omega (arith, leading-degree (c .args .a) (c .pre) (c .fits .a .fits))
+at-most-31 : tie.Need-sub-result
+at-most-31 c = omega (arith, leading-degree _ (c .pre) (c .fits .a .fits))
 
-returns : tie.Need-returns
-returns c = omega (arith, leading-degree (c .args .a) (c .pre) (c .fits .a .fits))
+is-degree : tie.Need-returns
+is-degree c = omega (arith, leading-degree _ (c .pre) (c .fits .a .fits))
 
 pub degree-of-spec : {M : Type 1} → statement M
-degree-of-spec = tie.close (tie.spec sub-result returns)
+degree-of-spec = tie.close (tie.spec at-most-31 is-degree)

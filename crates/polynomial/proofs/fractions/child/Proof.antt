@@ -4,14 +4,11 @@ use Rattle.polynomial.specs.Fractions.{child-by-x, child-by-other}
 use Rattle.polynomial.proofs.fractions.child.Statement.{statement}
 use Rattle.polynomial.proofs.fractions.child.Tie as tie
 
-mul-by-x : tie.Need-mul-by-x
-mul-by-x c = search needs
+by-x : tie.Need-returns
+by-x c = child-by-x _ _ _ (c .if1 .taken)
 
-returns : tie.Need-returns
-returns c = child-by-x _ _ _ (c .if1 .taken)
-
-returns-2 : tie.Need-returns-2
-returns-2 c = child-by-other _ _ _ (c .before .pre .0) (c .if1 .left)
+by-other : tie.Need-returns-2
+by-other c = child-by-other _ _ _ (c .before .pre .0) (c .if1 .left)
 
 pub child-spec : {M : Type 1} → statement M
-child-spec = tie.close (tie.spec mul-by-x returns returns-2)
+child-spec = tie.close (tie.spec (λ c. search needs) by-x by-other)

@@ -10,15 +10,6 @@ use borrow.Author.Needs.{needs}
 use Rattle.ranking.proofs.serve.next_page.Statement.{statement}
 use Rattle.ranking.proofs.serve.next_page.Tie as tie
 
-judge-pair-requires : tie.Need-judge-pair-requires
-judge-pair-requires c κs = search needs
-
-enum-known-judged : tie.Need-enum-known-judged
-enum-known-judged c = search needs
-
-enum-told : tie.Need-enum-told
-enum-told c = search needs
-
 page-after-requires : tie.Need-page-after-requires
 page-after-requires c κs =
     let g = c .before .before .before .before .before .args in
@@ -37,9 +28,6 @@ returns c =
     let told = c .before .judged .given .1 in
     (laws.rejected (g .degree) (g .p) (g .q) NoPage (servedAnswer (g .degree) (g .top) (after (rowKey (row (g .degree) (g .top) (g .p) (g .q)))) (g .out .now)) j told, laws.rejected (g .degree) (g .p) (g .q) (λ n. g .out .now) (servedSlice (g .degree) (g .top) (after (rowKey (row (g .degree) (g .top) (g .p) (g .q)))) (g .out .now)) j told)
 
-same-length : tie.Need-same-length
-same-length c = search needs
-
 returns-2 : tie.Need-returns-2
 returns-2 c =
     let g = c .before .before .before .before .before .before .before .before .args in
@@ -52,11 +40,4 @@ returns-2 c =
 pub next-page-spec : {M : Type 1} → statement M
 next-page-spec =
     tie.close
-    (tie.spec
-    judge-pair-requires
-    enum-known-judged
-    enum-told
-    page-after-requires
-    returns
-    same-length
-    returns-2)
+    (tie.spec (λ c κs. search needs) (λ c. search needs) (λ c. search needs) page-after-requires returns (λ c. search needs) returns-2)

@@ -7,21 +7,6 @@ use borrow.Author.Needs.{needs}
 use Rattle.ranking.proofs.serve.page_after.Statement.{statement}
 use Rattle.ranking.proofs.serve.page_after.Tie as tie
 
-slice-aggregate-write-key : tie.Need-slice-aggregate-write-key
-slice-aggregate-write-key c = search needs
-
-write-key-requires : tie.Need-write-key-requires
-write-key-requires c κs = search needs
-
-slice-aggregate-serve : tie.Need-slice-aggregate-serve
-slice-aggregate-serve c = search needs
-
-serve-requires : tie.Need-serve-requires
-serve-requires c κs = search needs
-
-same-length : tie.Need-same-length
-same-length c = search needs
-
 returns : tie.Need-returns
 returns c =
     let g = c .before .before .before .before .before .before .before .before .before .args in
@@ -33,10 +18,4 @@ returns c =
 pub page-after-spec : {M : Type 1} → statement M
 page-after-spec =
     tie.close
-    (tie.spec
-    slice-aggregate-write-key
-    write-key-requires
-    slice-aggregate-serve
-    serve-requires
-    same-length
-    returns)
+    (tie.spec (λ c. search needs) (λ c κs. search needs) (λ c. search needs) (λ c κs. search needs) (λ c. search needs) returns)

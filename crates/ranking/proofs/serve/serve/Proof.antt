@@ -5,24 +5,15 @@ use borrow.Author.Needs.{needs}
 use Rattle.ranking.proofs.serve.serve.Statement.{statement}
 use Rattle.ranking.proofs.serve.serve.Tie as tie
 
-add-width : tie.Need-add-width
-add-width c = search needs
-
 returns : tie.Need-returns
 returns c =
     let g = c .before .before .before .args in
     (laws.short-answer (g .degree) (g .top) (g .after) (g .last .now) (g .out .now) (c .before .before .before .pre .0) (c .before .before .before .pre .1) (c .if1 .taken), laws.short-slice (g .degree) (g .top) (g .after) (g .last .now) (g .out .now) (c .before .before .before .pre .0) (c .before .before .before .pre .1) (c .if1 .taken))
 
-div-capacity : tie.Need-div-capacity
-div-capacity c = search needs
-
 visit-requires : tie.Need-visit-requires
 visit-requires c κs =
     let g = c .before .before .before .before .args in
     laws.ready (g .degree) (g .top) (g .after) (g .last .now) (g .out .now) (c .before .before .before .before .pre .0) (c .before .before .before .before .pre .1) (c .before .before .before .before .pre .2) (omega arith)
-
-same-length : tie.Need-same-length
-same-length c = search needs
 
 returns-2 : tie.Need-returns-2
 returns-2 c =
@@ -32,5 +23,4 @@ returns-2 c =
     )
 
 pub serve-spec : {M : Type 1} → statement M
-serve-spec =
-    tie.close (tie.spec add-width returns div-capacity visit-requires same-length returns-2)
+serve-spec = tie.close (tie.spec (λ c. search needs) returns (λ c. search needs) visit-requires (λ c. search needs) returns-2)

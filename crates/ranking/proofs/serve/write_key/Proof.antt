@@ -8,24 +8,6 @@ use borrow.Author.Needs.{needs}
 use Rattle.ranking.proofs.serve.write_key.Statement.{statement}
 use Rattle.ranking.proofs.serve.write_key.Tie as tie
 
-slice-write-row : tie.Need-slice-write-row
-slice-write-row c = search needs
-
-slice-write-row-2 : tie.Need-slice-write-row-2
-slice-write-row-2 c = search needs
-
-slice-write-row-3 : tie.Need-slice-write-row-3
-slice-write-row-3 c = search needs
-
-add-width : tie.Need-add-width
-add-width c = search needs
-
-sub-fill-t : tie.Need-sub-fill-t
-sub-fill-t c = search needs
-
-part-fill-t-start : tie.Need-part-fill-t-start
-part-fill-t-start c = search needs
-
 part-fill-t-end : tie.Need-part-fill-t-end
 part-fill-t-end c = simp length-set (omega (arith, c .before .pre .0 .1 .high, c .before .pre .1))
 
@@ -57,14 +39,5 @@ returns c =
 pub write-key-spec : {M : Type 1} → statement M
 write-key-spec =
     tie.close
-    (tie.spec
-    slice-write-row
-    slice-write-row-2
-    slice-write-row-3
-    add-width
-    sub-fill-t
-    part-fill-t-start
-    part-fill-t-end
-    fill-t-requires
-    same-length
-    returns)
+    (tie.spec (λ c. search needs) (λ c. search needs) (λ c. search needs) (λ c. search needs) (λ c. search needs) (λ c. search needs)
+    part-fill-t-end fill-t-requires same-length returns)

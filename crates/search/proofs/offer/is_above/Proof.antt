@@ -8,11 +8,8 @@ use Rattle.search.proofs.offer.is_above.Tie as tie
 returns : tie.Need-returns
 returns c = laws.above-open (c .before .before .before .before .args .f) (c .before .before .before .before .args .last .now) _ (not-true _ (c .if1 .taken))
 
-stands-before-requires : tie.Need-stands-before-requires
-stands-before-requires c κs = search needs
-
 returns-2 : tie.Need-returns-2
 returns-2 c = laws.above-last (c .before .before .before .before .before .args .f) (c .before .before .before .before .before .args .last .now) _ (not-false _ (c .before .if1 .left)) (c .stands-before .ensures)
 
 pub is-above-spec : {M : Type 1} → statement M
-is-above-spec = tie.close (tie.spec returns stands-before-requires returns-2)
+is-above-spec = tie.close (tie.spec returns (λ c κs. search needs) returns-2)

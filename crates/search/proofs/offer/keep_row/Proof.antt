@@ -15,12 +15,6 @@ find-slot-requires c κs =
     let fit = laws.kept-fit (g .f) (g .p) (g .q) (g .n) (g .out .now) (g .row .now) k b in
     search needs
 
-find-step-requires : tie.Need-find-step-requires
-find-step-requires c κs = search needs
-
-slice-write-row : tie.Need-slice-write-row
-slice-write-row c = search needs
-
 insert-row-requires : tie.Need-insert-row-requires
 insert-row-requires c κs =
     let g = c .before .before .before .before .before .before .before .before .before .args in
@@ -30,24 +24,12 @@ insert-row-requires c κs =
       laws.slot-again (g .f) (g .p) (g .q) (g .n) (g .out .now) (g .row .now) k b (c .before .before .find-step .ensures) (c .before .before .before .before .find-slot .ensures),
     )
 
-same-length : tie.Need-same-length
-same-length c = search needs
-
-same-length-2 : tie.Need-same-length-2
-same-length-2 c = search needs
-
 returns : tie.Need-returns
 returns c =
     let g = c .before .before .before .before .before .before .before .before .before .before .before .before .args in
     let k = c .before .before .before .before .before .before .before .before .before .before .before .before .pre .0 in
     let b = c .before .before .before .before .before .before .before .before .before .before .before .before .pre .1 .1 .1 in
     laws.inserted-row (g .f) (g .p) (g .q) (g .n) (g .out .now) (g .row .now) k b (c .before .before .before .before .before .find-step .ensures) (c .before .before .insert-row .ensures)
-
-same-length-3 : tie.Need-same-length-3
-same-length-3 c = search needs
-
-same-length-4 : tie.Need-same-length-4
-same-length-4 c = search needs
 
 returns-2 : tie.Need-returns-2
 returns-2 c =
@@ -59,14 +41,5 @@ returns-2 c =
 pub keep-row-spec : {M : Type 1} → statement M
 keep-row-spec =
     tie.close
-    (tie.spec
-    find-slot-requires
-    find-step-requires
-    slice-write-row
-    insert-row-requires
-    same-length
-    same-length-2
-    returns
-    same-length-3
-    same-length-4
-    returns-2)
+    (tie.spec find-slot-requires (λ c κs. search needs) (λ c. search needs) insert-row-requires (λ c. search needs) (λ c. search needs) returns
+    (λ c. search needs) (λ c. search needs) returns-2)

@@ -14,9 +14,6 @@ is-above-requires c κs =
     let r = c .before .before .before .before .pre .0 in
     (r .framed, omega (arith, c .before .before .before .before .pre .1 .1 .1 .sized, r .framed .narrow))
 
-same-length : tie.Need-same-length
-same-length c = search needs
-
 returns : tie.Need-returns
 returns c =
     let g = c .before .before .before .before .before .before .args in
@@ -27,15 +24,6 @@ returns c =
 
 keep-row-requires : tie.Need-keep-row-requires
 keep-row-requires c κs = (laws.keeping (c .before .before .before .before .before .before .before .before .pre .0), c .before .before .before .before .before .before .before .before .pre .1)
-
-add-t18 : tie.Need-add-t18
-add-t18 c = search needs
-
-same-length-2 : tie.Need-same-length-2
-same-length-2 c = search needs
-
-same-length-3 : tie.Need-same-length-3
-same-length-3 c = search needs
 
 returns-2 : tie.Need-returns-2
 returns-2 c =
@@ -49,12 +37,5 @@ returns-2 c =
 pub offer-known-spec : {M : Type 1} → statement M
 offer-known-spec =
     tie.close
-    (tie.spec
-    is-above-requires
-    same-length
-    returns
-    keep-row-requires
-    add-t18
-    same-length-2
-    same-length-3
+    (tie.spec is-above-requires (λ c. search needs) returns keep-row-requires (λ c. search needs) (λ c. search needs) (λ c. search needs)
     returns-2)

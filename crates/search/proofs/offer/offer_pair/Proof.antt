@@ -7,9 +7,6 @@ use borrow.Author.Needs.{needs}
 use Rattle.search.proofs.offer.offer_pair.Statement.{statement}
 use Rattle.search.proofs.offer.offer_pair.Tie as tie
 
-is-primitive-requires : tie.Need-is-primitive-requires
-is-primitive-requires c κs = search needs
-
 returns : tie.Need-returns
 returns c =
     let g = c .before .before .before .before .args in
@@ -32,9 +29,6 @@ offer-row-requires c κs =
     let passes = laws.pair-accepted (g .f) (g .last .now) (stateOf (g .out .now) (g .t)) (g .p) (g .q) primitive (c .before .before .before .before .before .before .before .pre .1 .1) coprime in
     (c .before .before .before .before .before .before .before .pre .0, (c .before .before .before .before .before .before .before .pre .1 .0, passes))
 
-same-length : tie.Need-same-length
-same-length c = search needs
-
 returns-3 : tie.Need-returns-3
 returns-3 c =
     let g = c .before .before .before .before .before .before .before .before .before .before .args in
@@ -46,11 +40,4 @@ returns-3 c =
 pub offer-pair-spec : {M : Type 1} → statement M
 offer-pair-spec =
     tie.close
-    (tie.spec
-    is-primitive-requires
-    returns
-    has-full-order-requires
-    returns-2
-    offer-row-requires
-    same-length
-    returns-3)
+    (tie.spec (λ c κs. search needs) returns has-full-order-requires returns-2 offer-row-requires (λ c. search needs) returns-3)

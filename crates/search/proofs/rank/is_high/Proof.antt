@@ -12,9 +12,6 @@ use Rattle.search.proofs.rank.is_high.Tie as tie
 returns : tie.Need-returns
 returns c = laws.both-no (eqb (c .before .before .before .before .before .args .t .kept) (c .before .before .before .before .before .args .f .capacity)) _ (ne-eqb _ _ (c .if1 .taken))
 
-sub-ranks-before : tie.Need-sub-ranks-before
-sub-ranks-before c = search needs
-
 mul-ranks-before : tie.Need-mul-ranks-before
 mul-ranks-before c =
     let g = c .before .before .before .before .before .before .before .args in
@@ -35,5 +32,4 @@ returns-2 : tie.Need-returns-2
 returns-2 c = laws.both-yes (eqb (c .before .before .before .before .before .before .before .before .args .t .kept) (c .before .before .before .before .before .before .before .before .args .f .capacity)) (eq-eqb _ _ (c .before .before .before .if1 .left)) (c .ranks-before .ensures)
 
 pub is-high-spec : {M : Type 1} → statement M
-is-high-spec =
-    tie.close (tie.spec returns sub-ranks-before mul-ranks-before ranks-before-requires returns-2)
+is-high-spec = tie.close (tie.spec returns (λ c. search needs) mul-ranks-before ranks-before-requires returns-2)

@@ -8,11 +8,8 @@ use Rattle.search.proofs.rank.is_low.Tie as tie
 returns : tie.Need-returns
 returns c = laws.both-no (c .before .before .before .before .args .f .after) _ (not-true _ (c .if1 .taken))
 
-ranks-before-requires : tie.Need-ranks-before-requires
-ranks-before-requires c κs = search needs
-
 returns-2 : tie.Need-returns-2
 returns-2 c = laws.both-yes (c .before .before .before .before .before .args .f .after) (not-false _ (c .before .if1 .left)) (c .ranks-before .ensures)
 
 pub is-low-spec : {M : Type 1} → statement M
-is-low-spec = tie.close (tie.spec returns ranks-before-requires returns-2)
+is-low-spec = tie.close (tie.spec returns (λ c κs. search needs) returns-2)

@@ -19,15 +19,6 @@ Inv-loop p q out t f last row₀ m w value₀ s₀ row value s =
 abbrev μ-loop : tie.MeasureT-loop
 μ-loop p q out t f last row₀ m w value₀ s₀ row value s = w - s
 
-slice-write-row : tie.Need-slice-write-row Inv-loop μ-loop
-slice-write-row c = search needs
-
-slice-write-row-2 : tie.Need-slice-write-row-2 Inv-loop μ-loop
-slice-write-row-2 c = search needs
-
-slice-write-row-3 : tie.Need-slice-write-row-3 Inv-loop μ-loop
-slice-write-row-3 c = search needs
-
 next-t-requires : tie.Need-next-t-requires Inv-loop μ-loop
 next-t-requires c κs =
     let g = c .before .before .before .args in
@@ -55,15 +46,6 @@ next-t-requires-2 c κs =
     let able = modulo (g .f .degree) (g .p) (g .q) (a .low) (a .high) wf in
     let bound = stop (g .f .degree) (g .p) (g .q) (a .low) (a .high) wf (c .before .before .before .before .before .before .pre .1 .1 .0) in
     (able, (bound, ((omega arith, omega (arith, c .before .before .before .before .before .before .pre .0 .framed .narrow)), c .before .loop .inv .4)))
-
-mul-row : tie.Need-mul-row Inv-loop μ-loop
-mul-row c = search needs
-
-slice-write-row-4 : tie.Need-slice-write-row-4 Inv-loop μ-loop
-slice-write-row-4 c = search needs
-
-add-s : tie.Need-add-s Inv-loop μ-loop
-add-s c = search needs
 
 is-low-requires : tie.Need-is-low-requires Inv-loop μ-loop
 is-low-requires c κs =
@@ -99,9 +81,6 @@ returns-2 c =
     let e = laws.write-next (g .f .degree) (g .p) (g .q) (o .row) v (o .s) (omega arith) (omega (arith, r .framed .narrow)) (o .inv .3) (c .before .before .before .before .before .before .next-t2 .ensures) in
     laws.high-known (g .p) (g .q) (set (o .row) (o .s) v) r (o .s + 1) (omega arith) (omega arith) e (sym (c .before .is-high .ensures) ∙ c .if2 .taken)
 
-loop-less : tie.Need-loop-less Inv-loop μ-loop
-loop-less c = search needs
-
 loop-again : tie.Need-loop-again Inv-loop μ-loop
 loop-again c =
     let g = c .before .before .before .before .before .before .before .before .before .before .before .before .before .args in
@@ -124,25 +103,6 @@ returns-3 c =
 pub weigh-spec : {M : Type 1} → statement M
 weigh-spec =
     tie.close
-    (tie.spec
-    Inv-loop
-    μ-loop
-    slice-write-row
-    slice-write-row-2
-    slice-write-row-3
-    next-t-requires
-    loop-holds
-    next-t-requires-2
-    mul-row
-    slice-write-row-4
-    add-s
-    is-low-requires
-    same-length
-    returns
-    is-high-requires
-    same-length-2
-    returns-2
-    loop-less
-    loop-again
-    same-length-3
-    returns-3)
+    (tie.spec Inv-loop μ-loop (λ c. search needs) (λ c. search needs) (λ c. search needs) next-t-requires loop-holds next-t-requires-2
+    (λ c. search needs) (λ c. search needs) (λ c. search needs) is-low-requires same-length returns is-high-requires same-length-2 returns-2
+    (λ c. search needs) loop-again same-length-3 returns-3)

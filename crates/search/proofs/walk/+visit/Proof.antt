@@ -24,123 +24,9 @@ visit-at t = and 2 visit-kinds.ps (is 2 visit-kinds.ps μ-visit t) visit.Pre
 abbrev visit-below : ℕ → In 2 visit-kinds.ps
 visit-below t = and 2 visit-kinds.ps (falls 2 visit-kinds.ps _<_ μ-visit t) visit.Pre
 
-visit-offer-pair-requires : (t : ℕ) → visit-lts.Need-offer-pair-requires (
-  offer-pair-reads.Asked,
-  offer-pair-reads.Learnt,
-  child-reads.Asked,
-  child-reads.Learnt,
-  visit-below t,
-  visit.Post,
-) (visit-at t) visit.Post
-visit-offer-pair-requires t c κs =
-    let r = c .before .before .before .before .pre .1 in
-    let z = c .before .if1 .taken in
-    (laws.leaf-searching r z, (laws.leaf-well-formed r z, laws.leaf-linear r z))
-
-visit-same-length : (t : ℕ) → visit-lts.Need-same-length (
-  offer-pair-reads.Asked,
-  offer-pair-reads.Learnt,
-  child-reads.Asked,
-  child-reads.Learnt,
-  visit-below t,
-  visit.Post,
-) (visit-at t) visit.Post
-visit-same-length t c = search needs
-
-visit-returns : (t : ℕ) → visit-lts.Need-returns (
-  offer-pair-reads.Asked,
-  offer-pair-reads.Learnt,
-  child-reads.Asked,
-  child-reads.Learnt,
-  visit-below t,
-  visit.Post,
-) (visit-at t) visit.Post
-visit-returns t c = laws.leaf-done (c .before .before .before .before .before .before .before .pre .1) (c .before .before .before .before .if1 .taken) (c .before .before .offer-pair .ensures)
-
-visit-child-requires : (t : ℕ) → visit-lts.Need-child-requires (
-  offer-pair-reads.Asked,
-  offer-pair-reads.Learnt,
-  child-reads.Asked,
-  child-reads.Learnt,
-  visit-below t,
-  visit.Post,
-) (visit-at t) visit.Post
-visit-child-requires t c κs = (two-linear, laws.node-fits (c .before .before .before .pre .1) (c .if1 .left))
-
-visit-sub-visit : (t : ℕ) → visit-lts.Need-sub-visit (
-  offer-pair-reads.Asked,
-  offer-pair-reads.Learnt,
-  child-reads.Asked,
-  child-reads.Learnt,
-  visit-below t,
-  visit.Post,
-) (visit-at t) visit.Post
-visit-sub-visit t c = search needs
-
-visit-visit-requires : (t : ℕ) → visit-lts.Need-visit-requires (
-  offer-pair-reads.Asked,
-  offer-pair-reads.Learnt,
-  child-reads.Asked,
-  child-reads.Learnt,
-  visit-below t,
-  visit.Post,
-) (visit-at t) visit.Post
-visit-visit-requires t c κs = (omega arith, laws.left-ready (c .before .before .before .before .before .pre .1) (c .before .before .if1 .left) (c .before .child .ensures))
-
-visit-child-requires-2 : (t : ℕ) → visit-lts.Need-child-requires-2 (
-  offer-pair-reads.Asked,
-  offer-pair-reads.Learnt,
-  child-reads.Asked,
-  child-reads.Learnt,
-  visit-below t,
-  visit.Post,
-) (visit-at t) visit.Post
-visit-child-requires-2 t c κs = (three-linear, laws.node-fits (c .before .before .before .before .before .before .before .before .pre .1) (c .before .before .before .before .before .if1 .left))
-
-visit-sub-visit-2 : (t : ℕ) → visit-lts.Need-sub-visit-2 (
-  offer-pair-reads.Asked,
-  offer-pair-reads.Learnt,
-  child-reads.Asked,
-  child-reads.Learnt,
-  visit-below t,
-  visit.Post,
-) (visit-at t) visit.Post
-visit-sub-visit-2 t c = search needs
-
-visit-visit-requires-2 : (t : ℕ) → visit-lts.Need-visit-requires-2 (
-  offer-pair-reads.Asked,
-  offer-pair-reads.Learnt,
-  child-reads.Asked,
-  child-reads.Learnt,
-  visit-below t,
-  visit.Post,
-) (visit-at t) visit.Post
-visit-visit-requires-2 t c κs =
-    (omega arith, laws.right-ready (c .before .before .before .before .before .before .before .before .before .before .pre .1) (c .before .before .before .before .before .before .before .if1 .left) (c .before .before .before .before .before .before .child .ensures) (c .before .child2 .ensures) (c .before .before .before .before .visit .ensures))
-
-visit-same-length-2 : (t : ℕ) → visit-lts.Need-same-length-2 (
-  offer-pair-reads.Asked,
-  offer-pair-reads.Learnt,
-  child-reads.Asked,
-  child-reads.Learnt,
-  visit-below t,
-  visit.Post,
-) (visit-at t) visit.Post
-visit-same-length-2 t c = search needs
-
-visit-returns-2 : (t : ℕ) → visit-lts.Need-returns-2 (
-  offer-pair-reads.Asked,
-  offer-pair-reads.Learnt,
-  child-reads.Asked,
-  child-reads.Learnt,
-  visit-below t,
-  visit.Post,
-) (visit-at t) visit.Post
-visit-returns-2 t c =
-    laws.node-done (c .before .before .before .before .before .before .before .before .before .before .before .before .before .pre .1) (c .before .before .before .before .before .before .before .before .before .before .if1 .left) (c .before .before .before .before .before .before .before .before .before .child .ensures) (c .before .before .before .before .child2 .ensures) (c .before .before .before .before .before .before .before .visit .ensures) (c .before .before .visit2 .ensures)
-
-pub +visit-spec : {M : Type 1} → statement M
-+visit-spec = close μ-visit λ t. visit-lts.spec (
+-- What the functions called ask and what is learnt from them, where t levels are left: the walk itself at fewer levels.
+abbrev calls : ℕ → visit-lts.Claims
+calls t = (
   offer-pair-reads.Asked,
   offer-pair-reads.Learnt,
   child-reads.Asked,
@@ -148,16 +34,44 @@ pub +visit-spec : {M : Type 1} → statement M
   visit-below t,
   visit.Post,
 )
-    (visit-at t)
-    visit.Post
-    (visit-offer-pair-requires t)
-    (visit-same-length t)
-    (visit-returns t)
-    (visit-child-requires t)
-    (visit-sub-visit t)
-    (visit-visit-requires t)
-    (visit-child-requires-2 t)
-    (visit-sub-visit-2 t)
-    (visit-visit-requires-2 t)
-    (visit-same-length-2 t)
-    (visit-returns-2 t)
+
+module _ (t : ℕ) where
+  offer-pair-requires : visit-lts.Need-offer-pair-requires (calls t) (visit-at t) visit.Post
+  offer-pair-requires c κs =
+      let r = c .before .before .before .before .pre .1 in
+      let z = c .before .if1 .taken in
+      (laws.leaf-searching r z, (laws.leaf-well-formed r z, laws.leaf-linear r z))
+
+  returns : visit-lts.Need-returns (calls t) (visit-at t) visit.Post
+  returns c = laws.leaf-done (c .before .before .before .before .before .before .before .pre .1) (c .before .before .before .before .if1 .taken) (c .before .before .offer-pair .ensures)
+
+  child-requires : visit-lts.Need-child-requires (calls t) (visit-at t) visit.Post
+  child-requires c κs = (two-linear, laws.node-fits (c .before .before .before .pre .1) (c .if1 .left))
+
+  visit-requires : visit-lts.Need-visit-requires (calls t) (visit-at t) visit.Post
+  visit-requires c κs = (omega arith, laws.left-ready (c .before .before .before .before .before .pre .1) (c .before .before .if1 .left) (c .before .child .ensures))
+
+  child-requires-2 : visit-lts.Need-child-requires-2 (calls t) (visit-at t) visit.Post
+  child-requires-2 c κs = (three-linear, laws.node-fits (c .before .before .before .before .before .before .before .before .pre .1) (c .before .before .before .before .before .if1 .left))
+
+  visit-requires-2 : visit-lts.Need-visit-requires-2 (calls t) (visit-at t) visit.Post
+  visit-requires-2 c κs =
+      (omega arith, laws.right-ready (c .before .before .before .before .before .before .before .before .before .before .pre .1) (c .before .before .before .before .before .before .before .if1 .left) (c .before .before .before .before .before .before .child .ensures) (c .before .child2 .ensures) (c .before .before .before .before .visit .ensures))
+
+  returns-2 : visit-lts.Need-returns-2 (calls t) (visit-at t) visit.Post
+  returns-2 c =
+      laws.node-done (c .before .before .before .before .before .before .before .before .before .before .before .before .before .pre .1) (c .before .before .before .before .before .before .before .before .before .before .if1 .left) (c .before .before .before .before .before .before .before .before .before .child .ensures) (c .before .before .before .before .child2 .ensures) (c .before .before .before .before .before .before .before .visit .ensures) (c .before .before .visit2 .ensures)
+
+pub +visit-spec : {M : Type 1} → statement M
++visit-spec = close μ-visit λ t. visit-lts.spec (calls t) (visit-at t) visit.Post
+    (offer-pair-requires t)
+    (λ c. search needs)
+    (returns t)
+    (child-requires t)
+    (λ c. search needs)
+    (visit-requires t)
+    (child-requires-2 t)
+    (λ c. search needs)
+    (visit-requires-2 t)
+    (λ c. search needs)
+    (returns-2 t)

@@ -1,0 +1,44 @@
+-- What the search keeps in arrays, and what its functions answer: the rows handed on are the powers of q times 1, x, x^2, .., and the vectors that
+-- reduce stand in an array of 32, the oldest first. Assumes nothing.
+use mathlib.Core.Path.{_≡_}
+use mathlib.Core.List.{List, [], _∷_}
+use Prim.Native.Nat.{ℕ, zero, suc, _+_, _-_, _*_, _≤_, _<_}
+use lib.ListN.{getD, length}
+use Rattle.definitions.specs.Polynomial.{rem}
+use Rattle.net_laws.specs.Share.{digitRow}
+use Rattle.net_laws.specs.Search.{search}
+use Rattle.net_laws.specs.Weight.{level}
+
+-- More vectors than a residue has digits.
+abbrev pub room : ℕ
+room = 32
+
+abbrev pub Residues : ℕ → List ℕ → Type 0
+Residues top xs = (i : ℕ) → getD xs i 0 < top
+
+-- The first n powers of q modulo p, each the first row of its coordinate.
+abbrev pub Powers : ℕ → ℕ → ℕ → List ℕ → Type 0
+Powers p q n xs = (i : ℕ) → i < n → getD xs i 0 ≡ digitRow p q i 0
+
+-- The first n elements, the last of them in front.
+unfoldable pub newest : List ℕ → ℕ → List ℕ
+newest xs zero = []
+newest xs (suc n) = getD xs n 0 ∷ newest xs n
+
+abbrev pub firstRow : List ℕ → ℕ → ℕ
+firstRow powers j = getD powers j 0
+
+abbrev pub nextRow : ℕ → ℕ → ℕ
+nextRow p r = rem (2 * r) p
+
+-- k is the least weight found with e rows taken, from the row r of coordinate j on; the vectors of these rows are kept.
+pub record Searched (p : ℕ) (powers : List ℕ) (f j r e : ℕ) (b after : List ℕ) (w k : ℕ) : Type 0 where
+  pub found : k ≡ search (firstRow powers) (nextRow p) f (j + (suc room - e)) j r e (newest b e) w
+  pub less : k ≤ w
+  pub kept : newest after e ≡ newest b e
+  pub sized : length after ≡ length b
+
+-- k is the least weight with coordinate j, where w is the least without it.
+pub record Levelled (p : ℕ) (powers : List ℕ) (f j w k : ℕ) : Type 0 where
+  pub found : k ≡ level (firstRow powers) (nextRow p) f room j w
+  pub less : k ≤ w
