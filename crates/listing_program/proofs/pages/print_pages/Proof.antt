@@ -22,7 +22,7 @@ abbrev μ-loop : tie.MeasureT-loop
 few : (top n size : ℕ) → n * (top + 1) ≤ size → size ≤ 36864 → n ≤ 36864
 few top n size h k = let r = rows-few n (top + 1) size (omega arith) h in omega arith
 
-few-at-hand : (c : tie.Start) → c .args .count ≤ 36864
+few-at-hand : (c : tie.Start Inv-loop μ-loop) → c .args .count ≤ 36864
 few-at-hand c = few (c .args .top) (c .args .count) (length (now (c .args .rows))) (c .pre .1 .1 .1 .0) (c .pre .1 .1 .0)
 
 -- What a turn starts with.
