@@ -29,7 +29,7 @@ use Rattle.definitions.specs.declared.Judgement.{Judgement}
 use Rattle.definitions.specs.declared.Judgement.the-variants.{Accepted, Rejected}
 use Rattle.definitions.specs.declared.PageAnswer.{PageAnswer}
 use Rattle.definitions.specs.declared.PageAnswer.the-variants.{Page, NoPage}
-use Rattle.fraction_laws.specs.Walk.{root-proper}
+use Rattle.fraction_laws.specs.Level.{root-proper}
 use Rattle.fraction_laws.specs.Tree.{tree-def}
 use Rattle.order_laws.specs.Accepted.{accepted-is}
 use Rattle.page_laws.specs.Key.{by-test}

@@ -119,7 +119,7 @@ module _ {M : Type 1} (𝓤 : URA M) (H : Heap 𝓤) (A : Atoms 𝓤) (W : Given
   abbrev made : RefT (List ℕ) → ℕ → ℕ → Reader
   made r t k = record { body = r; degree = m; top = t; place = k }
 
-  -- The place k is the one that the code writes down, and the contract asks for 0.
+  -- The place k is the number that the code writes. That it is 0 is shown below by a test, since `refl` would choose k by itself.
   exits : (r : RefT (List ℕ)) (t k : ℕ) → k < 2 ^ 64 → now r ≡ lookupPart (now s) m → t ≡ readerTop (now s) m → k ≡ 0
       → ent 𝓤 (⋆ 𝓤 H A (‵ (u32 .own t (vint w32 t ∷ [])) ∷ (‵ (flft κ q) ⊛ ‵ ftrue) ∷ ‵ Kept ∷ ‵ (Lent .own r (slice r ∷ [])) ∷ [])) (Post (T′.lowered (made r t k)))
   exits r t k small e f g =

@@ -7,7 +7,7 @@ use Rattle.interface.proofs.fenyurka_judge.Statement.{statement}
 use Rattle.interface.proofs.fenyurka_judge.Tie as tie
 
 returns : tie.Need-returns
-returns c = value-crosses judgementValues (c .before .found .given .1) (c .before .before .before .judge .ensures) refl _
+returns c = value-crosses judgementValues (c .before .found .given .1) (c .before .before .before .judge .ensures) refl (c .before .before .before .before .args .step .now)
 
 returns-2 : tie.Need-returns-2
 returns-2 c = value-crosses judgementValues (c .before .before .refusal .given .1) (c .before .before .before .before .judge .ensures) (c .refusal-number .ensures) _

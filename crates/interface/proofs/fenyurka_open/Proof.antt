@@ -7,7 +7,7 @@ use Rattle.interface.proofs.fenyurka_open.Statement.{statement}
 use Rattle.interface.proofs.fenyurka_open.Tie as tie
 
 returns : tie.Need-returns
-returns c = value-crosses openingValues (c .before .found .given .1) (c .before .before .before .open .ensures) refl _
+returns c = value-crosses openingValues (c .before .found .given .1) (c .before .before .before .open .ensures) refl (c .before .before .before .before .before .args .entries .now)
 
 returns-2 : tie.Need-returns-2
 returns-2 c = value-crosses openingValues (c .before .before .refusal .given .1) (c .before .before .before .before .open .ensures) (c .refusal-number .ensures) _

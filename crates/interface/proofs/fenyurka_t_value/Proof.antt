@@ -7,7 +7,7 @@ use Rattle.interface.proofs.fenyurka_t_value.Statement.{statement}
 use Rattle.interface.proofs.fenyurka_t_value.Tie as tie
 
 returns : tie.Need-returns
-returns c = value-crosses uniformityValues (c .before .found .given .1) (c .before .before .before .t-value .ensures) refl _
+returns c = value-crosses uniformityValues (c .before .found .given .1) (c .before .before .before .t-value .ensures) refl (c .before .before .before .before .args .t .now)
 
 returns-2 : tie.Need-returns-2
 returns-2 c = value-crosses uniformityValues (c .before .before .refusal .given .1) (c .before .before .before .before .t-value .ensures) (c .refusal-number .ensures) _

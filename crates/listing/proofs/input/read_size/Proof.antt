@@ -8,21 +8,12 @@ use Rattle.listing.specs.Words.{word-within, stage-none, stage-last, sta
 use Rattle.listing.proofs.input.read_size.Statement.{statement}
 use Rattle.listing.proofs.input.read_size.Tie as tie
 
-find-requires : tie.Need-find-requires
-find-requires c κs = search needs
-
 read-word-requires : tie.Need-read-word-requires
 read-word-requires c κs =
     let start = c .before .before in
     let a = start .args in
     let inside = word-within (a .degree ∷ a .top ∷ []) (now (a .line)) (a .from) (start .pre) (c .find .ensures) in
     (inside .0, inside .1)
-
-enum-known-size : tie.Need-enum-known-size
-enum-known-size c = search needs
-
-enum-told : tie.Need-enum-told
-enum-told c = search needs
 
 returns : tie.Need-returns
 returns c =
@@ -49,12 +40,4 @@ returns-3 c =
 
 pub read-size-spec : {M : Type 1} → statement M
 read-size-spec =
-    tie.close
-    (tie.spec
-    find-requires
-    read-word-requires
-    enum-known-size
-    enum-told
-    returns
-    returns-2
-    returns-3)
+    tie.close (tie.spec (search needs) read-word-requires (search needs) (search needs) returns returns-2 returns-3)
