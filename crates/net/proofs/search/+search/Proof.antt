@@ -58,9 +58,9 @@ module _ (t : ℕ) where
       let joined = c .before .before .before .before in
       let reduced = joined .before .before in
       let a = at joined .args in
-      passed (a .p) (a .powers .now) (a .bound) (a .coordinate) (a .row) (a .taken) (a .basis .now) _ (a .least) (reduced .reduce .result) (joined .if3 .low) (c .search .result)
-      (reduced .before .before .before .if1 .left) (reduced .before .before .if2 .left) (reduced .reduce .ensures) (lowered joined) (c .before .before .before .if4 .taken)
-      (omega (arith, at joined .pre .1)) (c .search .ensures)
+      passed (a .p) (a .powers .now) (a .bound) (a .coordinate) (a .row) (a .taken) (a .basis .now) (a .least) (reduced .reduce .result) (joined .if3 .low)
+      (reduced .before .before .before .if1 .left) (reduced .before .before .if2 .left) (reduced .reduce .ensures) (lowered joined) (omega (arith, at joined .pre .1))
+      _ (c .search .result) (c .before .before .before .if4 .taken) (c .search .ensures)
 
   search-requires-2 : lts.Need-search-requires-2 claims Entry reads.Post
   search-requires-2 c κs =
@@ -80,13 +80,14 @@ module _ (t : ℕ) where
 
   returns-4 : lts.Need-returns-4 claims Entry reads.Post
   returns-4 c =
+      let taken = c .before .before .before .search2 in
       let next = c .before .before .before .before .before .times-x in
       let joined = c .before .before .before .before .before .before .before in
       let reduced = joined .before .before in
       let a = at joined .args in
-      followed (a .p) (a .powers .now) (a .bound) (a .coordinate) (a .row) (a .taken) (a .basis .now) _ _ (a .least) (reduced .reduce .result) (joined .if3 .low) (next .result)
-      (c .before .before .before .search2 .result) (c .search3 .result) (reduced .before .before .before .if1 .left) (reduced .before .before .if2 .left) (reduced .reduce .ensures)
-      (lowered joined) (next .ensures .0) (omega (arith, at joined .pre .1)) (omega (arith, at joined .pre .1, at joined .pre .1 .1 .1 .1 .1)) (c .before .before .before .search2 .ensures)
+      followed (a .p) (a .powers .now) (a .bound) (a .coordinate) (a .row) (a .taken) (a .basis .now) (a .least) (reduced .reduce .result) (joined .if3 .low)
+      (reduced .before .before .before .if1 .left) (reduced .before .before .if2 .left) (reduced .reduce .ensures) (lowered joined) (omega (arith, at joined .pre .1))
+      _ _ (next .result) (taken .result) (c .search3 .result) (next .ensures .0) (omega (arith, at joined .pre .1, at joined .pre .1 .1 .1 .1 .1)) (taken .ensures)
       (c .search3 .ensures)
 
 pub +search-spec : {M : Type 1} → statement M
