@@ -1,7 +1,7 @@
 -- Arrays that a loop fills: what is asked of each element, once one is set; the powers of q, each q times the one before; the vectors of an array,
 -- the newest in front; t-values in a slice. Assumes nothing.
 use mathlib.Core.Path.{_≡_, refl, sym, ap, ap₂, _∙_}
-use mathlib.Core.List.{List, [], _∷_, map}
+use mathlib.Core.List.{List, _∷_, map}
 use Prim.Native.Nat.{ℕ, zero, suc, _+_, _-_, _≤_, _<_}
 use native.Mathlib.Numerals.{add-one}
 use native.Mathlib.Omega.{arith}
@@ -15,7 +15,7 @@ use Rattle.definitions.specs.Ranking.{tValues}
 use Rattle.number_laws.specs.Lists.{numbers-length}
 use Rattle.polynomial_laws.specs.Power.{power-zero, rem-one}
 use Rattle.polynomial.specs.Modulus.{Modulus, modulus-positive, modulus-one}
-use Rattle.net_laws.specs.Share.{digitRow, digitRow-first, digitRow-next}
+use Rattle.net_laws.specs.Point.{digitRow, digitRow-first, digitRow-next}
 use Rattle.net.specs.Search.{Residues, Powers, newest}
 
 pub set-each : (Q : ℕ → ℕ → Type 0) (xs : List ℕ) (j v : ℕ) → j < length xs → Q j v → (i : ℕ) → ((i ≡ j → ⊥) → Q i (getD xs i 0)) → Q i (getD (set xs j v) i 0)

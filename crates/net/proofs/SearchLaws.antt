@@ -3,13 +3,12 @@
 use mathlib.Core.Path.{_≡_, refl, sym, ap, ap₂, _∙_}
 use mathlib.Core.Logic.{_⊎_, inl, inr}
 use mathlib.Core.List.{List, [], _∷_}
-use Prim.Native.Nat.{ℕ, zero, suc, _+_, _-_, _*_, _^_, _≤_, _<_, min}
+use Prim.Native.Nat.{ℕ, zero, suc, _+_, _-_, _^_, _≤_, _<_, min}
 use native.Mathlib.Numerals.{add-one}
 use native.Mathlib.Omega.{arith}
 use lib.ListN.{getD, set, length, length-set}
 use lib.Bits.{bitXor}
 use lib.Count.{leadingZeros, leading-of-zero}
-use Rattle.definitions.specs.Polynomial.{rem}
 use Rattle.polynomial_laws.specs.Sum.{⊕-def}
 use Rattle.polynomial.specs.Digits.{leading-degree}
 use Rattle.net_laws.specs.Reduction.{reduce, reduceBy}
