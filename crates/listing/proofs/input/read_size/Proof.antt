@@ -1,7 +1,9 @@
 -- `listing::input::read_size` reads the page size and the end of a line. Assumes nothing.
-use mathlib.Core.Path.{sym, _∙_}
+use mathlib.Core.Path.{_≡_, sym, _∙_}
 use mathlib.Core.List.{[], _∷_}
+use native.Mathlib.Omega.{arith}
 use denote.Ref.{now}
+use lib.ListN.{length}
 use borrow.Author.Needs.{needs}
 use Rattle.definitions.specs.Listing.{asked}
 use Rattle.listing.specs.Words.{word-within, stage-none, stage-last, stage-more, asked-full}
@@ -28,7 +30,7 @@ returns-2 c =
     let start = word .before .before .before in
     let a = start .args in
     sym (asked-full (a .degree) (a .top) (c .before .before .size .given .0 .0) _)
-    ∙ stage-more (a .degree ∷ a .top ∷ []) (now (a .line)) (a .from) (start .pre) (word .before .find .ensures) (word .read-word .ensures) (c .before .before .size .given .1) (c .if1 .taken)
+    ∙ stage-more (a .degree ∷ a .top ∷ []) (now (a .line)) (a .from) (start .pre) (word .before .find .ensures) (word .read-word .ensures) (c .before .before .size .given .1) (λ e. omega (arith, c .if1 .taken))
 
 returns-3 : tie.Need-returns-3
 unfolding asked
@@ -36,7 +38,8 @@ returns-3 c =
     let word = c .before .before .before .before in
     let start = word .before .before .before in
     let a = start .args in
-    stage-last (a .degree ∷ a .top ∷ []) (now (a .line)) (a .from) (start .pre) (word .before .find .ensures) (word .read-word .ensures) (c .before .before .size .given .1) (c .if1 .left)
+    let last : word .before .find .result ≡ length (now (a .line)) = omega arith in
+    stage-last (a .degree ∷ a .top ∷ []) (now (a .line)) (a .from) (start .pre) (word .before .find .ensures) (word .read-word .ensures) (c .before .before .size .given .1) last
 
 pub read-size-spec : {M : Type 1} → statement M
 read-size-spec =
