@@ -2,13 +2,13 @@
 -- The point X_i has the coordinates X_i, X_(i+1), ..; the X_i run through the nonzero polynomials once; and h = 0 is the origin.
 -- Assumes nothing.
 use mathlib.Core.Path.{_≡_, refl, sym, ap, ap₂, _∙_, fun-ext}
-use mathlib.Core.Bool.{Bool, true, false}
-use mathlib.Core.List.{List, [], _∷_, map}
-use Prim.Native.Nat.{ℕ, zero, suc, _+_, _*_, _%_, _^_, _≤_, _<_}
+use mathlib.Core.Bool.{Bool, true}
+use mathlib.Core.List.{List, _∷_, map}
+use Prim.Native.Nat.{ℕ, zero, suc, _+_, _%_, _^_, _≤_, _<_}
 use native.Mathlib.Omega.{arith}
 use lib.ListN.{replicate}
 use Rattle.definitions.specs.Number.{bit, count, numbers}
-use Rattle.definitions.specs.Polynomial.{prod, power}
+use Rattle.definitions.specs.Polynomial.{power}
 use Rattle.definitions.specs.Generator.{period, accepted}
 use Rattle.definitions.specs.Points.{leading, state, wordDigits, word, coordinate}
 use Rattle.polynomial_laws.specs.Degree.{HasDegree}
@@ -18,7 +18,7 @@ use Rattle.order_laws.specs.Cycle.{degree-big}
 use Rattle.order_laws.specs.State.{state-power}
 use Rattle.order_laws.specs.Orbit.{state-mod, states-count}
 use Rattle.order_laws.specs.Accepted.{accepted-is}
-use Rattle.net_laws.specs.Share.{origin-digits}
+use Rattle.net_laws.specs.Point.{leading-origin}
 
 -- The s coordinates of the point h, to 32 digits.
 unfoldable pub point : ℕ → ℕ → ℕ → ℕ → List ℕ
@@ -39,7 +39,7 @@ zeros (suc s) a = ap (λ (l : List ℕ). 0 ∷ l) (zeros s (suc a))
 pub point-zero : (p q s : ℕ) → point p q s 0 ≡ origin s
 unfolding point origin
 point-zero p q s =
-    ap (λ (f : ℕ → ℕ). map f (numbers 0 s)) (fun-ext (λ j. origin-digits p q j wordDigits)) ∙ zeros s 0
+    ap (λ (f : ℕ → ℕ). map f (numbers 0 s)) (fun-ext (λ j. leading-origin p q j wordDigits)) ∙ zeros s 0
 
 module _ (p : ℕ) (big : 2 ≤ p) where
   pub coordinate-state : (q i j : ℕ) → coordinate p q j (state p q i) ≡ state p q (i + j)

@@ -211,7 +211,7 @@ fn other_files_2() {
     opened(b"\x01\x04\x03\x00\x00\x00\x00\x00\x0a");
 }
 
-pub fn all() {
+pub(crate) fn all() {
     one_byte_changed_1();
     one_byte_changed_2();
     one_byte_changed_3();

@@ -136,7 +136,7 @@ fn no_room_beyond() {
     asked(4, 7, &mut room[..0]);
 }
 
-pub fn all() {
+pub(crate) fn all() {
     seven_words();
     full_period();
     edges();

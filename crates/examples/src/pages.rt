@@ -65,7 +65,7 @@ fn one_row() {
     first(&mut slice);
 }
 
-pub fn all() {
+pub(crate) fn all() {
     too_short();
     one_row();
     after(11, 4);

@@ -3,24 +3,24 @@ use definitions::Refusal;
 
 const OUT: i32 = 1;
 
-pub fn text(bytes: &[u8]) {
+pub(crate) fn text(bytes: &[u8]) {
     io::write_all(OUT, bytes);
 }
 
-pub fn number(n: u32) {
+pub(crate) fn number(n: u32) {
     io::print_decimal(OUT, n as u64);
 }
 
-pub fn count(n: usize) {
+pub(crate) fn count(n: usize) {
     io::print_decimal(OUT, n as u64);
 }
 
-pub fn refused(refusal: Refusal) {
+pub(crate) fn refused(refusal: Refusal) {
     text(b" refused ");
     number(answers::refusal_number(refusal));
 }
 
-pub fn pair(call: &[u8], m: u32, p: u32, q: u32) {
+pub(crate) fn pair(call: &[u8], m: u32, p: u32, q: u32) {
     text(call);
     number(m);
     text(b" ");

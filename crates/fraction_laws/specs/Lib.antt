@@ -2,6 +2,6 @@
 pub mod WellFormed
 pub mod Expansion
 pub mod Quotients
-pub mod Walk
+pub mod Level
 pub mod Tree
 pub mod Inverse

@@ -1,149 +1,123 @@
--- The tree's pairs of degree m ≥ 1 are the well-formed pairs with linear quotients, each once, and there are 2^m of them. A pair stands in the
--- tree where some m choices lead to it; two subtrees share no pair, because walks of one length that end alike began alike.
+-- The tree's pairs of degree m ≥ 1 are the well-formed pairs with linear quotients, each once, and there are 2^m of them. What stands k levels below
+-- a grown pair has grown k degrees; what has grown k degrees stands k levels below some pair, and below one only, since each level has one above it.
 -- Assumes nothing.
 use mathlib.Core.Path.{_≡_, refl, sym, ap, _∙_, subst}
-use mathlib.Core.Logic.{_⊎_, inl, inr, ⊎-elim, ∥∥₁-elim}
-use mathlib.Core.HLevel.{⊥-prop}
+use mathlib.Core.Logic.{_⊎_, inl, inr}
 use mathlib.Core.Bool.{true}
-use mathlib.Core.List.{List, [], _∷_, _++_, reverse, List·Memᴰ, List·Memᴰ·head, List·Memᴰ·append-cases, Memᴰ·append-left, Memᴰ·append-right, List·Memᴰ·eq-of-singleton, List·Nodup, Pairwise·cons, Pairwise·nil, not-mem-nil, nodup-append}
-use Prim.Native.Nat.{ℕ, zero, suc, _+_, _^_, _≤_, _<_}
-use native.Mathlib.Nat.{pow-suc}
+use mathlib.Core.List.{[], _∷_, _++_, List·Memᴰ, List·Memᴰ·head, List·Memᴰ·append-cases, List·Memᴰ·not-nil, Memᴰ·append-left, Memᴰ·append-right, List·Memᴰ·eq-of-singleton, List·Nodup, Pairwise·nil}
+use Prim.Native.Nat.{ℕ, zero, suc, _+_, _^_, _≤_}
+use native.Mathlib.Nat.{zero-add, add-zero}
 use native.Mathlib.Omega.{arith}
-use lib.Pow.{pow-mono}
-use lib.ListN.{length, length-append, length-reverse}
-use Rattle.definitions.specs.Generator.{expansion, linearQuotients, wellFormed, Pair, child, pairsBelow, tree}
+use lib.ListN.{length, length-append}
+use Rattle.definitions.specs.Polynomial.{quot}
+use Rattle.definitions.specs.Generator.{linearQuotients, wellFormed, Pair, child, pairsBelow, tree}
+use Rattle.number_laws.specs.Lists.{nodup-more, nodup-join}
 use Rattle.polynomial_laws.specs.Degree.{HasDegree}
-use Rattle.fraction_laws.specs.Expansion.{root, expansion-zero}
 use Rattle.fraction_laws.specs.WellFormed.{Proper, wellFormed-is, wellFormed-proper}
-use Rattle.fraction_laws.specs.Quotients.{Linear, none, one, LinearQuotients, two-linear, three-linear, linear-cases, linearQuotients-is, quotients-count}
-use Rattle.fraction_laws.specs.Walk.{walk, root-proper, child-proper, walk-root-proper, walk-linear, linear-reverse, linear-reached, child-injective, walk-start}
+use Rattle.fraction_laws.specs.Quotients.{two-linear, three-linear, linear-cases}
+use Rattle.fraction_laws.specs.Level.{root, parent, child-proper, quotient-child, parent-child, Grown, root-proper, root-grown, proper-root, child-grown, grown-nonzero, grown-hangs}
 
+-- ---- k levels below s
+data Below : ℕ → Pair → Pair → Type 0 where
+  here : {s : Pair} → Below 0 s s
+  down : {k : ℕ} {s t : Pair} (a : ℕ) → HasDegree a 1 → Below k (child a s) t → Below (suc k) s t
+
+below-grown : {k : ℕ} (m : ℕ) {s t : Pair} → Below k s t → Grown m s → Grown (k + m) t
+below-grown m here g = rw zero-add g
+below-grown m (down {k} {t = t} a ha b) g =
+    let e : k + suc m ≡ suc k + m = omega arith in
+    subst (λ n. Grown n t) e (below-grown (suc m) b (child-grown ha g))
+
+-- what has grown stands below some pair of each level above it, and below one only
+record Began (k m : ℕ) (t : Pair) : Type 0 where
+  s : Pair
+  grown : Grown m s
+  below : Below k s t
+
+grown-began : (k m : ℕ) (t : Pair) → Grown (k + m) t → Began k m t
+grown-began zero m t g = record { s = t; grown = rw zero-add at g; below = here }
+grown-began (suc k) m t g =
+    let e : suc k + m ≡ k + suc m = omega arith in
+    let b = grown-began k (suc m) t (subst (λ n. Grown n t) e g) in
+    let h = grown-hangs m (b .s) (b .grown) in
+    record { s = h .above; grown = h .grown; below = down (h .a) (h .linear-a) (rw (← h .is) at (b .below)) }
+
+began-once : (m : ℕ) {k : ℕ} {s t u : Pair} → Below k s u → Below k t u → Proper m s → Proper m t → s ≡ t
+began-once m here here hs ht = refl
+began-once m (down {s = s} a ha b) (down {s = t} c hc d) hs ht =
+    sym (parent-child m a s hs) ∙ ap parent (began-once (suc m) b d (child-proper m a s ha hs) (child-proper m c t hc ht)) ∙ parent-child m c t ht
+
+-- ---- the tree by its levels
 pub tree-def : (m : ℕ) → tree m ≡ pairsBelow m root
-unfolding tree
-tree-def m = refl
+tree-def m = unfold tree in refl
 
 pub pairsBelow-zero : (s : Pair) → pairsBelow 0 s ≡ s ∷ []
-unfolding pairsBelow
-pairsBelow-zero s = refl
+pairsBelow-zero s = unfold pairsBelow in refl
 
 pub pairsBelow-suc : (k : ℕ) (s : Pair) → pairsBelow (suc k) s ≡ pairsBelow k (child 2 s) ++ pairsBelow k (child 3 s)
-unfolding pairsBelow
-pairsBelow-suc k s = refl
+pairsBelow-suc k s = unfold pairsBelow in refl
 
 pub pairsBelow-count : (k : ℕ) (s : Pair) → length (pairsBelow k s) ≡ 2 ^ k
-unfolding pairsBelow
-pairsBelow-count zero s = refl
-pairsBelow-count (suc k) s =
-    omega (arith, length-append (pairsBelow k (child 2 s)) (pairsBelow k (child 3 s)), pairsBelow-count k (child 2 s), pairsBelow-count k (child 3 s), pow-suc 2 k)
+pairsBelow-count zero s = rw pairsBelow-zero
+pairsBelow-count (suc k) s = rw (pairsBelow-suc, length-append, pairsBelow-count k (child 2 s), pairsBelow-count k (child 3 s)) (omega arith)
 
--- ---- the pairs k levels below s are those that k choices lead to
-pub record Reached (k : ℕ) (s t : Pair) : Type 0 where
-  pub choices : List ℕ
-  pub linear : Linear choices
-  pub levels : length choices ≡ k
-  pub ends : walk choices s ≡ t
-
-reached-child : {k a : ℕ} {s t : Pair} → HasDegree a 1 → Reached k (child a s) t → Reached (suc k) s t
-unfolding walk
-reached-child {a = a} h r = record { choices = a ∷ r .choices; linear = one h (r .linear); levels = ap suc (r .levels); ends = r .ends }
-
-pub pairsBelow-reached : (k : ℕ) (s t : Pair) → List·Memᴰ t (pairsBelow k s) → Reached k s t
-unfolding pairsBelow walk
-pairsBelow-reached zero s t h = record { choices = []; linear = none; levels = refl; ends = sym (List·Memᴰ·eq-of-singleton h) }
-pairsBelow-reached (suc k) s t h =
-    ⊎-elim (λ (i : List·Memᴰ t (pairsBelow k (child 2 s))). reached-child two-linear (pairsBelow-reached k (child 2 s) t i))
-    (λ (i : List·Memᴰ t (pairsBelow k (child 3 s))). reached-child three-linear (pairsBelow-reached k (child 3 s) t i))
-    (List·Memᴰ·append-cases (pairsBelow k (child 2 s)) h)
-
-walked-below : (k : ℕ) {l : List ℕ} (s : Pair) → Linear l → length l ≡ k → List·Memᴰ (walk l s) (pairsBelow k s)
-unfolding walk pairsBelow
-walked-below zero s none e = List·Memᴰ·head refl
-walked-below (suc k) s none e = absurd (omega arith)
-walked-below zero s (one h r) e = absurd (omega arith)
-walked-below (suc k) s (one {a} {l} h r) e = go (λ t. walked-below k t r (omega arith)) (linear-cases a h)
+pairsBelow-out : (k : ℕ) (s t : Pair) → List·Memᴰ t (pairsBelow k s) → Below k s t
+pairsBelow-out zero s t m = rw (List·Memᴰ·eq-of-singleton (rw pairsBelow-zero at m)) here
+pairsBelow-out (suc k) s t m = go (pairsBelow-out k (child 2 s) t) (pairsBelow-out k (child 3 s) t) (List·Memᴰ·append-cases (pairsBelow k (child 2 s)) (rw pairsBelow-suc at m))
   where
-    go : ((t : Pair) → List·Memᴰ (walk l t) (pairsBelow k t)) → (a ≡ 2) ⊎ (a ≡ 3)
-        → List·Memᴰ (walk l (child a s)) (pairsBelow k (child 2 s) ++ pairsBelow k (child 3 s))
-    go ih (inl z) = rw z (Memᴰ·append-left (pairsBelow k (child 3 s)) (ih (child 2 s)))
-    go ih (inr z) = rw z (Memᴰ·append-right (pairsBelow k (child 2 s)) (ih (child 3 s)))
+    go : (List·Memᴰ t (pairsBelow k (child 2 s)) → Below k (child 2 s) t) → (List·Memᴰ t (pairsBelow k (child 3 s)) → Below k (child 3 s) t)
+        → List·Memᴰ t (pairsBelow k (child 2 s)) ⊎ List·Memᴰ t (pairsBelow k (child 3 s)) → Below (suc k) s t
+    go two three (inl n) = down 2 two-linear (two n)
+    go two three (inr n) = down 3 three-linear (three n)
 
-pub reached-below : {k : ℕ} {s t : Pair} → Reached k s t → List·Memᴰ t (pairsBelow k s)
-reached-below {k} {s} r = subst (λ (x : Pair). List·Memᴰ x (pairsBelow k s)) (r .ends) (walked-below k s (r .linear) (r .levels))
-
-pub pairsBelow-once : (m k : ℕ) (s : Pair) → Proper m s → List·Nodup (pairsBelow k s)
-unfolding pairsBelow
-pairsBelow-once m zero s h = Pairwise·cons (λ a n. absurd (not-mem-nil n)) Pairwise·nil
-pairsBelow-once m (suc k) s h =
-    nodup-append .1 (
-      pairsBelow-once (suc m) k (child 2 s) h2,
-      pairsBelow-once (suc m) k (child 3 s) h3,
-      λ t i j. ∥∥₁-elim i ⊥-prop (λ i. ∥∥₁-elim j ⊥-prop (λ j. apart t (pairsBelow-reached k (child 2 s) t i) (pairsBelow-reached k (child 3 s) t j))),
-    )
+pairsBelow-in : {k : ℕ} {s t : Pair} → Below k s t → List·Memᴰ t (pairsBelow k s)
+pairsBelow-in (here {s}) = rw pairsBelow-zero (List·Memᴰ·head refl)
+pairsBelow-in (down {k} {s} {t} a ha b) = rw pairsBelow-suc (go (linear-cases a ha) (pairsBelow-in b))
   where
-    h2 : Proper (suc m) (child 2 s)
-    h2 = child-proper m 2 s two-linear h
+    go : (a ≡ 2) ⊎ (a ≡ 3) → List·Memᴰ t (pairsBelow k (child a s)) → List·Memᴰ t (pairsBelow k (child 2 s) ++ pairsBelow k (child 3 s))
+    go (inl e) m = Memᴰ·append-left (pairsBelow k (child 3 s)) (rw e at m)
+    go (inr e) m = Memᴰ·append-right (pairsBelow k (child 2 s)) (rw e at m)
 
-    h3 : Proper (suc m) (child 3 s)
-    h3 = child-proper m 3 s three-linear h
+pairsBelow-once : (k m : ℕ) (s : Pair) → Proper m s → List·Nodup (pairsBelow k s)
+pairsBelow-once zero m s h = rw pairsBelow-zero (nodup-more List·Memᴰ·not-nil Pairwise·nil)
+pairsBelow-once (suc k) m s h =
+    rw pairsBelow-suc (nodup-join (pairsBelow-once k (suc m) (child 2 s) two) (pairsBelow-once k (suc m) (child 3 s) three) apart)
+  where
+    two : Proper (suc m) (child 2 s)
+    two = child-proper m 2 s two-linear h
 
-    apart : (t : Pair) → Reached k (child 2 s) t → Reached k (child 3 s) t → ⊥
-    apart t x y =
-        let e = walk-start (suc m) (child 2 s) (child 3 s) (x .linear) (y .linear) (x .levels ∙ sym (y .levels)) h2 h3 (x .ends ∙ sym (y .ends)) in
-        let z : _≡_ {A = ℕ} 2 3 = child-injective m 2 3 s s h h e .0 in
+    three : Proper (suc m) (child 3 s)
+    three = child-proper m 3 s three-linear h
+
+    apart : (t : Pair) → List·Memᴰ t (pairsBelow k (child 2 s)) → List·Memᴰ t (pairsBelow k (child 3 s)) → ⊥
+    apart t i j =
+        let e = began-once (suc m) (pairsBelow-out k (child 2 s) t i) (pairsBelow-out k (child 3 s) t j) two three in
+        let z : _≡_ {A = ℕ} 2 3 = sym (quotient-child m 2 s h) ∙ ap (λ (c : Pair). quot (c .p) (c .q)) e ∙ quotient-child m 3 s h in
         omega arith
 
--- ---- the tree, from its root
-pub record Grown (m : ℕ) (s : Pair) : Type 0 where
-  pub proper : Proper m s
-  pub quotients : LinearQuotients (s .p) (s .q)
-
-pub tree-grown : (m : ℕ) (s : Pair) → List·Memᴰ s (tree m) → Grown m s
-tree-grown m s h =
-    let r = pairsBelow-reached m root s (rw tree-def at h) in
-    record {
-      proper = subst (λ n. Proper n s) (r .levels) (subst (Proper (length (r .choices))) (r .ends) (walk-root-proper (r .linear)));
-      quotients = subst (λ (t : Pair). LinearQuotients (t .p) (t .q)) (r .ends) (walk-linear (r .linear));
-    }
-
-pub grown-tree : (m : ℕ) (s : Pair) → Grown m s → List·Memᴰ s (tree m)
-grown-tree m s h =
-    let l = expansion (s .p) (s .q) .quotients in
-    rw tree-def (reached-below (record {
-      choices = reverse l;
-      linear = linear-reverse (h .quotients .linear);
-      levels = length-reverse l ∙ quotients-count m s (h .proper) (h .quotients);
-      ends = linear-reached s (h .quotients);
-    }))
-
--- below the root q is not 0
-nonzero : (m p q : ℕ) → 1 ≤ m → Grown m (record { p = p; q = q }) → 0 < q
-nonzero m p zero pos h =
-    let z : p ≡ 1 = rw (expansion-zero p) at (h .quotients .coprime) in
-    absurd (omega (arith, pow-mono pos, h .proper .degree-p .least))
-nonzero m p (suc q) pos h = omega arith
-
--- ---- the theorem: each well-formed pair with linear quotients, once, and no other
+-- ---- the theorem
 pub record InTree (m : ℕ) (s : Pair) : Type 0 where
   pub well-formed : wellFormed m (s .p) (s .q) ≡ true
   pub quotients : linearQuotients (s .p) (s .q) ≡ true
 
 pub tree-sound : (m : ℕ) (s : Pair) → 1 ≤ m → List·Memᴰ s (tree m) → InTree m s
-tree-sound m s pos h =
-    let g = tree-grown m s h in
+tree-sound zero s pos h = absurd (omega arith)
+tree-sound (suc m) s pos h =
+    let g = rw add-zero at (below-grown 0 (pairsBelow-out (suc m) root s (rw tree-def at h)) root-grown) in
     record {
-      well-formed = wellFormed-is m (s .p) (s .q) .1
-          (record { degree-p = g .proper .degree-p; nonzero = nonzero m (s .p) (s .q) pos g; smaller = g .proper .smaller });
-      quotients = linearQuotients-is (s .p) (s .q) .1 (g .quotients);
+      well-formed = wellFormed-is (suc m) (s .p) (s .q) .1
+          (record { degree-p = g .proper .degree-p; nonzero = grown-nonzero m (s .p) (s .q) g; smaller = g .proper .smaller });
+      quotients = g .quotients;
     }
 
 pub tree-complete : (m : ℕ) (s : Pair) → InTree m s → List·Memᴰ s (tree m)
-tree-complete m s h = grown-tree m s (record {
-  proper = wellFormed-proper (wellFormed-is m (s .p) (s .q) .0 (h .well-formed));
-  quotients = linearQuotients-is (s .p) (s .q) .0 (h .quotients);
-})
+tree-complete m s h =
+    let g : Grown m s = record { proper = wellFormed-proper (wellFormed-is m (s .p) (s .q) .0 (h .well-formed)); quotients = h .quotients } in
+    let b = grown-began m 0 s (rw add-zero g) in
+    rw (tree-def, ← proper-root (b .s) (b .grown .proper)) (pairsBelow-in (b .below))
 
 pub tree-once : (m : ℕ) → List·Nodup (tree m)
-tree-once m = rw tree-def (pairsBelow-once 0 m root root-proper)
+tree-once m = rw tree-def (pairsBelow-once m 0 root root-proper)
 
 pub tree-count : (m : ℕ) → length (tree m) ≡ 2 ^ m
 tree-count m = rw tree-def (pairsBelow-count m root)

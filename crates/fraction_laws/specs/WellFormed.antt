@@ -42,9 +42,6 @@ wellFormed-is m p q = (
 pub wellFormed-proper : {m p q : ℕ} → WellFormed m p q → Proper m (record { p = p; q = q })
 wellFormed-proper h = record { degree-p = h .degree-p; smaller = h .smaller }
 
-pub wellFormed-degree : {m p q : ℕ} → WellFormed m p q → degree p ≡ m
-wellFormed-degree {m} {p} h = degree-unique p m (h .degree-p)
-
 pub proper-degree : {m : ℕ} {s : Pair} → Proper m s → degree (s .p) ≡ m
 proper-degree {m} {s} h = degree-unique (s .p) m (h .degree-p)
 

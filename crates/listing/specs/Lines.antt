@@ -5,10 +5,9 @@ use mathlib.Core.Bool.{Bool, true, false, cond}
 use mathlib.Core.List.{List, [], _∷_, _++_, append-assoc}
 use Prim.Native.Nat.{ℕ, _+_, _≤_, _<_}
 use native.Mathlib.Omega.{arith}
-use lib.Dec.{leb}
 use lib.ListN.{length, set, length-append}
 use Rattle.definitions.specs.Listing.{decimal, newline, headerText, pageText, totalText, refusedText, letters}
-use Rattle.listing.specs.Place.{over, over-byte, length-over, then, fits-true, fits-false}
+use Rattle.listing.specs.Place.{over, over-byte, length-over, then}
 
 -- A word, a number and a newline.
 abbrev pub shortLine : List ℕ → ℕ → List ℕ
@@ -22,16 +21,8 @@ module _ (word : List ℕ) (n : ℕ) where
   pub line-length : length (shortLine word n) ≡ length word + length (decimal n) + 1
   line-length = simp length-append
 
-  -- The test with the digits counted.
-  module _ (at : ℕ) (out : List ℕ) {d : ℕ} (e : d ≡ length (decimal n)) where
-    counted : length word + d + 1 ≡ length (shortLine word n)
-    counted = omega (arith, line-length)
-
-    pub line-room : leb (at + (length word + d + 1)) (length out) ≡ true → at + length (shortLine word n) ≤ length out
-    line-room = fits-true at (length word + d + 1) (shortLine word n) out counted
-
-    pub line-short : leb (at + (length word + d + 1)) (length out) ≡ false → length out < at + length (shortLine word n)
-    line-short = fits-false at (length word + d + 1) (shortLine word n) out counted
+  pub line-counted : {d : ℕ} → d ≡ length (decimal n) → length word + d + 1 ≡ length (shortLine word n)
+  line-counted e = omega (arith, line-length)
 
   pub line-end : (at : ℕ) (out : List ℕ) {place : ℕ} {mid : List ℕ} → at + length (shortLine word n) ≤ length out
       → place ≡ at + length (word ++ decimal n) → mid ≡ over at (word ++ decimal n) out
@@ -46,16 +37,8 @@ module _ (word : List ℕ) (n : ℕ) (other : List ℕ) (k : ℕ) (ending : List
   pub long-length : length (longLine word n other k ending) ≡ length word + length (decimal n) + length other + length (decimal k) + length ending
   long-length = simp length-append
 
-  -- The test with the digits counted.
-  module _ (at : ℕ) (out : List ℕ) {d e : ℕ} (p : d ≡ length (decimal n)) (q : e ≡ length (decimal k)) where
-    long-counted : length word + d + length other + e + length ending ≡ length (longLine word n other k ending)
-    long-counted = omega (arith, long-length)
-
-    pub long-room : leb (at + (length word + d + length other + e + length ending)) (length out) ≡ true → at + length (longLine word n other k ending) ≤ length out
-    long-room = fits-true at (length word + d + length other + e + length ending) (longLine word n other k ending) out long-counted
-
-    pub long-short : leb (at + (length word + d + length other + e + length ending)) (length out) ≡ false → length out < at + length (longLine word n other k ending)
-    long-short = fits-false at (length word + d + length other + e + length ending) (longLine word n other k ending) out long-counted
+  pub long-counted : {d e : ℕ} → d ≡ length (decimal n) → e ≡ length (decimal k) → length word + d + length other + e + length ending ≡ length (longLine word n other k ending)
+  long-counted p q = omega (arith, long-length)
 
   module _ (at : ℕ) (out : List ℕ) (room : at + length (longLine word n other k ending) ≤ length out) {first : ℕ} {mid : List ℕ} (e : first ≡ at + length (word ++ decimal n)) (f : mid ≡ over at (word ++ decimal n) out) where
     pub second-room : first + length other + length (decimal k) ≤ length mid

@@ -99,14 +99,6 @@ room-test at n size h = go (leb n (size - at)) refl
     go true e = e ∙ sym (le-leb (at + n) size (let k = leb-true n (size - at) e in omega arith))
     go false e = e ∙ sym (lt-leb (at + n) size (let k = leb-false n (size - at) e in omega arith))
 
--- What a writer does behind the test that its text fits, and what is true where the test fails.
-module _ (at n : ℕ) (text out : List ℕ) (counted : n ≡ length text) where
-  pub fits-true : leb (at + n) (length out) ≡ true → at + length text ≤ length out
-  fits-true t = let h = leb-true (at + n) (length out) t in omega arith
-
-  pub fits-false : leb (at + n) (length out) ≡ false → length out < at + length text
-  fits-false t = let h = leb-false (at + n) (length out) t in omega arith
-
 module _ (at : ℕ) (text out : List ℕ) where
   pub put : {r : ℕ} {exit : List ℕ} → at + length text ≤ length out → r ≡ at + length text → exit ≡ over at text out
       → (r ≡ behind at text out) × (exit ≡ placed at text out)
@@ -114,6 +106,17 @@ module _ (at : ℕ) (text out : List ℕ) where
 
   pub not-put : length out < at + length text → (at ≡ behind at text out) × (out ≡ placed at text out)
   not-put h = (sym (behind-short at text out h), sym (placed-short at text out h))
+
+-- What a writer does behind the test that its text, whose bytes are counted, fits; and what it leaves where the test fails.
+module _ (at : ℕ) (text out : List ℕ) {n : ℕ} (counted : n ≡ length text) {fits : Bool} (tested : fits ≡ leb (at + n) (length out)) where
+  pub fits-room : fits ≡ true → at + length text ≤ length out
+  fits-room t = let h = leb-true (at + n) (length out) (sym tested ∙ t) in omega arith
+
+  pub fits-put : {r : ℕ} {exit : List ℕ} → fits ≡ true → r ≡ at + length text → exit ≡ over at text out → (r ≡ behind at text out) × (exit ≡ placed at text out)
+  fits-put t = put at text out (fits-room t)
+
+  pub fits-not : fits ≡ false → (at ≡ behind at text out) × (out ≡ placed at text out)
+  fits-not t = let h = leb-false (at + n) (length out) (sym tested ∙ t) in not-put at text out (omega arith)
 
 -- One writer behind another: the second finds room, and together they write both texts.
 module _ (at : ℕ) (a b out : List ℕ) where

@@ -12,14 +12,25 @@ use lib.ListN.{length, replicate, length-replicate}
 use borrow.Author.Tests.{leb-true, le-ltb, lt-ltb}
 use Rattle.definitions.specs.Answers.{Situation, unless, refusalNumber}
 use Rattle.definitions.specs.Calls.{paging, positionSituations, pageAnswer, pageRows, furtherRow}
-use Rattle.definitions.specs.Listing.{answerText, refusedText, listText, largestSize}
+use Rattle.definitions.specs.Listing.{answerText, refusedText, listText, largestSize, readLine, listing}
 use Rattle.definitions.specs.Ranking.{lawfulTop, rowWidth}
-use Rattle.definitions.specs.declared.Line.the-variants.{Asked}
+use Rattle.definitions.specs.declared.Line.the-variants.{Asked, Unreadable}
 use Rattle.definitions.specs.declared.PageAnswer.{PageAnswer}
 use Rattle.definitions.specs.declared.PageAnswer.the-variants.{Page, NoPage}
 use Rattle.definitions.specs.declared.PageRequest.{PageRequest}
 use Rattle.definitions.specs.declared.Position.the-variants.{Start}
 use Rattle.definitions.specs.declared.Refusal.{Refusal}
+use Rattle.listing_program.specs.declared.program.Printed.{Printed}
+use Rattle.listing_program.specs.declared.program.Printed.the-variants.{Listed, Refused}
+
+-- The text of what is printed.
+unfoldable pub printedText : Printed → List ℕ
+printedText (Listed m top size) = listText m top size
+printedText (Refused n) = refusedText n
+
+pub refused-text : {r : Printed} {n : ℕ} → r ≡ Refused n → printedText r ≡ refusedText n
+unfolding printedText
+refused-text e = rw e
 
 -- What is printed upon an answer: the refusal, or the list.
 unfoldable pub shown : ℕ → ℕ → ℕ → PageAnswer → List ℕ
@@ -81,3 +92,23 @@ decided-by-no-room m top =
 pub decided-by-size : (m top size : ℕ) → largestSize < size → answerText (Asked m top size) ≡ refusedText 0
 unfolding answerText
 decided-by-size m top size h = rw (lt-ltb largestSize size h, answerText)
+
+-- The text for the bytes of a line, once it is read.
+module _ (s : List ℕ) where
+  pub listing-asked : {m top size : ℕ} → readLine s ≡ Asked m top size → listing s ≡ answerText (Asked m top size)
+  unfolding listing
+  listing-asked e = rw e
+
+  pub listing-unreadable : readLine s ≡ Unreadable → listing s ≡ refusedText 0
+  unfolding listing answerText
+  listing-unreadable e = rw e
+
+-- What the code hands back: upon a refusal its number, and upon a page the list.
+module _ (m top size : ℕ) (s : List ℕ) (decided : answerText (Asked m top size) ≡ shown m top size (pageAnswer (firstPage m top) s)) {a : PageAnswer} (e : a ≡ pageAnswer (firstPage m top) s) where
+  pub refused-upon : {n : Refusal} {k : ℕ} {r : Printed} → a ≡ NoPage n → k ≡ refusalNumber n → r ≡ Refused k → printedText r ≡ answerText (Asked m top size)
+  unfolding printedText shown
+  refused-upon f g h = rw (h, g, decided, ← e, f)
+
+  pub listed-upon : {n : ℕ} {further : Bool} → a ≡ Page n further → printedText (Listed m top size) ≡ answerText (Asked m top size)
+  unfolding printedText shown
+  listed-upon f = rw (decided, ← e, f)

@@ -1,13 +1,18 @@
 // The line that is read, and what is answered to it.
 ghost use Prim.Native.Nat.{_≤_};
 ghost use lib.ListN.{length};
+ghost use mathlib.Core.Path.{_≡_};
+ghost use Rattle.definitions.specs.Listing.{answerText};
+ghost use Rattle.definitions.specs.declared.Line.the-variants.{Asked};
+ghost use Rattle.listing_program.specs.Decision.{printedText};
 use crate::output::print_refused;
 use crate::pages::print_list;
 use crate::pages::print_no_list;
+use crate::program::Printed;
 use libc::STDIN_FILENO;
 
 // A byte of the input, or its end.
-pub enum Input {
+pub(crate) enum Input {
     Byte(u8),
     End,
 }
@@ -24,7 +29,7 @@ fn next_byte() -> Input {
 
 // Reads the line byte by byte, so that nothing behind its newline is read, and answers how many bytes came.
 // A line that fills the buffer is longer than any that can be read.
-pub fn read_input(input: &mut [u8]) -> usize
+pub(crate) fn read_input(input: &mut [u8]) -> usize
     ensures { λ r. ⌜ r ≤ length (now (input .exit)) ⌝ }
 {
     let mut n = 0;
@@ -42,14 +47,14 @@ pub fn read_input(input: &mut [u8]) -> usize
 }
 
 // The list, or its refusal: an unlawful page size comes before every other.
-pub fn print_answer(degree: u32, top: u32, size: u32) {
+pub(crate) fn print_answer(degree: u32, top: u32, size: u32) -> Printed
+    ensures { λ r. ⌜ printedText r ≡ answerText (Asked degree top size) ⌝ }
+{
     if size > 1000 {
-        print_refused(0);
-        return;
+        return print_refused(0);
     }
     if size == 0 {
-        print_no_list(degree, top);
-        return;
+        return print_no_list(degree, top);
     }
     print_list(degree, top, size)
 }

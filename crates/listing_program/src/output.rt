@@ -4,6 +4,7 @@ ghost use Prim.Native.Nat.{_*_, _+_, _≤_, _<_};
 ghost use lib.ListN.{length};
 ghost use Rattle.listing.specs.Place.{over};
 ghost use Rattle.listing_program.specs.Room.{freeFrom, stepText};
+use crate::program::Printed;
 use libc::STDOUT_FILENO;
 use listing::printing::put_due;
 
@@ -15,15 +16,18 @@ fn show(text: &[u8], n: usize)
 }
 
 // The line that stands in place of a list.
-pub fn print_refused(number: u32) {
+pub(crate) fn print_refused(number: u32) -> Printed
+    ensures { λ r. ⌜ r ≡ Printed.Refused number ⌝ }
+{
     let mut space = [0u8; 64];
     let text: &mut [u8] = &mut space;
     let n = listing::put_refused(text, 0, number);
     show(text, n);
+    Printed::Refused(number)
 }
 
 // The line above a list.
-pub fn print_header(degree: u32, top: u32) {
+pub(crate) fn print_header(degree: u32, top: u32) {
     let mut space = [0u8; 64];
     let text: &mut [u8] = &mut space;
     let n = listing::put_header(text, 0, degree, top);
@@ -31,7 +35,7 @@ pub fn print_header(degree: u32, top: u32) {
 }
 
 // The line of the one page of an empty list.
-pub fn print_empty() {
+pub(crate) fn print_empty() {
     let mut space = [0u8; 64];
     let text: &mut [u8] = &mut space;
     let n = listing::put_page(text, 0, 1, 0, false);
@@ -39,7 +43,7 @@ pub fn print_empty() {
 }
 
 // The line below a list.
-pub fn print_total(rows: u32) {
+pub(crate) fn print_total(rows: u32) {
     let mut space = [0u8; 64];
     let text: &mut [u8] = &mut space;
     let n = listing::put_total(text, 0, rows);
@@ -75,7 +79,14 @@ fn put_step(text: &mut [u8], at: usize, row: &[u32], size: u32, done: u32, furth
 }
 
 // The rows of one page that was asked for, behind `done` rows printed before; `further` says that the list goes on behind them.
-pub fn print_rows(rows: &[u32], width: usize, count: usize, size: u32, done: u32, further: bool)
+pub(crate) fn print_rows(
+    rows: &[u32],
+    width: usize,
+    count: usize,
+    size: u32,
+    done: u32,
+    further: bool,
+)
     requires { ⌜ width ≤ 9 ⌝ }
     requires { ⌜ count * width ≤ length (now rows) ⌝ }
     requires { ⌜ 1 ≤ size ⌝ }

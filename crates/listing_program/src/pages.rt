@@ -1,11 +1,16 @@
 // The list by its pages. They are asked for with room for many rows, so that one search serves many printed pages.
 ghost use Prim.Native.Nat.{_*_, _+_, _≤_, _<_};
 ghost use lib.ListN.{length};
+ghost use mathlib.Core.Path.{_≡_};
+ghost use Rattle.definitions.specs.Listing.{answerText, largestSize};
+ghost use Rattle.definitions.specs.declared.Line.the-variants.{Asked};
+ghost use Rattle.listing_program.specs.Decision.{printedText};
 use crate::output::print_empty;
 use crate::output::print_header;
 use crate::output::print_refused;
 use crate::output::print_rows;
 use crate::output::print_total;
+use crate::program::Printed;
 use definitions::PageAnswer;
 use definitions::PageRequest;
 use definitions::Position;
@@ -14,13 +19,15 @@ use definitions::Position;
 const ROOM: usize = 36864;
 
 // The rows at hand, and whether the list goes on behind them.
-pub struct Part {
+pub(crate) struct Part {
     pub count: usize,
     pub further: bool,
 }
 
-// A page size of 0 asks with room for no row.
-pub fn print_no_list(degree: u32, top: u32) {
+// A page size of 0 asks with room for no row, so that no page is given.
+pub(crate) fn print_no_list(degree: u32, top: u32) -> Printed
+    ensures { λ r. ⌜ printedText r ≡ answerText (Asked degree top 0) ⌝ }
+{
     let mut none = [0u32; 0];
     let request = PageRequest {
         degree,
@@ -28,14 +35,17 @@ pub fn print_no_list(degree: u32, top: u32) {
         position: Position::Start,
     };
     let answer = ranking::page(request, &mut none);
-    if let PageAnswer::NoPage(refusal) = answer {
-        print_refused(answers::refusal_number(refusal));
+    match answer {
+        PageAnswer::NoPage(refusal) => print_refused(answers::refusal_number(refusal)),
+        PageAnswer::Page(_, _) => Printed::Listed(degree, top, 0),
     }
 }
 
 // The list in printed pages of `size` rows, or its refusal.
-pub fn print_list(degree: u32, top: u32, size: u32)
+pub(crate) fn print_list(degree: u32, top: u32, size: u32) -> Printed
     requires { ⌜ 1 ≤ size ⌝ }
+    requires { ⌜ size ≤ largestSize ⌝ }
+    ensures { λ r. ⌜ printedText r ≡ answerText (Asked degree top size) ⌝ }
 {
     let mut space = [0u32; ROOM];
     let rows: &mut [u32] = &mut space;
@@ -47,7 +57,10 @@ pub fn print_list(degree: u32, top: u32, size: u32)
     let answer = ranking::page(request, rows);
     match answer {
         PageAnswer::NoPage(refusal) => print_refused(answers::refusal_number(refusal)),
-        PageAnswer::Page(count, further) => print_pages(rows, degree, top, size, count, further),
+        PageAnswer::Page(count, further) => {
+            print_pages(rows, degree, top, size, count, further);
+            Printed::Listed(degree, top, size)
+        }
     }
 }
 

@@ -1,7 +1,7 @@
--- Arrays that a loop fills: what is asked of each element, once one is set; the powers of q, each q times the one before; the vectors of an array,
--- the newest in front; t-values in a slice. Assumes nothing.
+-- Arrays that a loop fills: what held of every element still does once one is set. So for the powers of q, each q times the one before, and for
+-- t-values in a slice; and the vectors taken so far, the newest in front. Assumes nothing.
 use mathlib.Core.Path.{_≡_, refl, sym, ap, ap₂, _∙_}
-use mathlib.Core.List.{List, [], _∷_, map}
+use mathlib.Core.List.{List, _∷_, map}
 use Prim.Native.Nat.{ℕ, zero, suc, _+_, _-_, _≤_, _<_}
 use native.Mathlib.Numerals.{add-one}
 use native.Mathlib.Omega.{arith}
@@ -15,10 +15,11 @@ use Rattle.definitions.specs.Ranking.{tValues}
 use Rattle.number_laws.specs.Lists.{numbers-length}
 use Rattle.polynomial_laws.specs.Power.{power-zero, rem-one}
 use Rattle.polynomial.specs.Modulus.{Modulus, modulus-positive, modulus-one}
-use Rattle.net_laws.specs.Share.{digitRow, digitRow-first, digitRow-next}
+use Rattle.net_laws.specs.Point.{digitRow, digitRow-first, digitRow-next}
 use Rattle.net.specs.Search.{Residues, Powers, newest}
 
-pub set-each : (Q : ℕ → ℕ → Type 0) (xs : List ℕ) (j v : ℕ) → j < length xs → Q j v → (i : ℕ) → ((i ≡ j → ⊥) → Q i (getD xs i 0)) → Q i (getD (set xs j v) i 0)
+set-each : (Q : ℕ → ℕ → Type 0) (xs : List ℕ) (j v : ℕ) → j < length xs → Q j v → (i : ℕ) → ((i ≡ j → ⊥) → Q i (getD xs i 0))
+    → Q i (getD (set xs j v) i 0)
 set-each Q xs j v fits new i old = at (ℕ-discrete i j)
   where
     at : Dec (i ≡ j) → Q i (getD (set xs j v) i 0)
@@ -36,7 +37,8 @@ module _ {p top : ℕ} (h : Modulus p top) where
   residues-start (suc n) zero = modulus-one h
   residues-start (suc n) (suc i) = residues-start n i
 
-  pub powers-more : (q j v : ℕ) (xs : List ℕ) → 1 ≤ j → j < length xs → v ≡ rem (prod q (getD xs (j - 1) 0)) p → Powers p q j xs → Powers p q (j + 1) (set xs j v)
+  pub powers-more : (q j v : ℕ) (xs : List ℕ) → 1 ≤ j → j < length xs → v ≡ rem (prod q (getD xs (j - 1) 0)) p → Powers p q j xs
+      → Powers p q (j + 1) (set xs j v)
   powers-more q zero v xs low fits e known i l = absurd (omega arith)
   powers-more q (suc j) v xs low fits e known i l =
       let before : suc j - 1 ≡ j = omega arith in

@@ -3,13 +3,12 @@
 use mathlib.Core.Path.{_≡_, refl, sym, ap, ap₂, _∙_}
 use mathlib.Core.Logic.{_⊎_, inl, inr}
 use mathlib.Core.List.{List, [], _∷_}
-use Prim.Native.Nat.{ℕ, zero, suc, _+_, _-_, _*_, _^_, _≤_, _<_, min}
+use Prim.Native.Nat.{ℕ, zero, suc, _+_, _-_, _^_, _≤_, _<_, min}
 use native.Mathlib.Numerals.{add-one}
 use native.Mathlib.Omega.{arith}
 use lib.ListN.{getD, set, length, length-set}
 use lib.Bits.{bitXor}
 use lib.Count.{leadingZeros, leading-of-zero}
-use Rattle.definitions.specs.Polynomial.{rem}
 use Rattle.polynomial_laws.specs.Sum.{⊕-def}
 use Rattle.polynomial.specs.Digits.{leading-degree}
 use Rattle.net_laws.specs.Reduction.{reduce, reduceBy}
@@ -52,44 +51,42 @@ module _ (p : ℕ) (powers : List ℕ) (f : ℕ) where
   pub stopped : (j r e : ℕ) (b : List ℕ) (w : ℕ) → (j ≡ 0) ⊎ (w ≤ e + f) → Searched p powers f j r e b b w w
   stopped j r e b w why = record { found = sym (ends (j + (suc room - e)) j r e (newest b e) w why); less = omega arith; kept = refl; sized = refl }
 
-  -- the row r is taken, which leads to `least` and, with all that can follow it, to `taken`; then coordinate j is left
-  turned : (j r e : ℕ) (b b₁ b₂ : List ℕ) (w v least taken k : ℕ) → (j ≡ 0 → ⊥) → e + f < w → v ≡ reduce (newest b e) r → least ≡ min w (e + 1 + size v)
-      → taken ≤ least → taken ≡ found (j + (suc room - suc e)) j (nextRow p r) (suc e) (v ∷ newest b e) least → newest b₁ e ≡ newest b e → length b₁ ≡ length b
-      → e < suc room → Searched p powers f (j - 1) (firstRow powers (j - 1)) e b₁ b₂ taken k → Searched p powers f j r e b b₂ w k
-  turned zero r e b b₁ b₂ w v least taken k some on reduces lower below takes kept sized fits leaves = absurd (some refl)
-  turned (suc j) r e b b₁ b₂ w v least taken k some on reduces lower below takes kept sized fits leaves =
-      let n = j + (suc room - e) in
-      let fuel : suc j + (suc room - e) ≡ suc n = omega arith in
-      let fuel₁ : suc j + (suc room - suc e) ≡ n = omega arith in
-      let before : suc j - 1 ≡ j = omega arith in
-      let least-is : least ≡ min w (suc e + size v) = lower ∙ ap (λ (x : ℕ). min w (x + size v)) (add-one e) in
-      record {
-        found =
-            rw (fuel, search-goes-on (firstRow powers) (nextRow p) f n j r e (newest b e) w on)
-            ((rw (before, kept) at (leaves .found)) ∙ ap (found n j (firstRow powers j) e (newest b e)) (rw (fuel₁, least-is, reduces) at takes));
-        less = omega (arith, leaves .less);
-        kept = leaves .kept ∙ kept;
-        sized = leaves .sized ∙ sized;
-      }
+  -- the row r of coordinate j, reduced by the e rows taken to v, lowers the weight w to `low`
+  module _ (j r e : ℕ) (b : List ℕ) (w v low : ℕ) (some : j ≡ 0 → ⊥) (on : e + f < w) (reduces : v ≡ reduce (newest b e) r)
+      (lowers : low ≡ min w (e + 1 + size v)) (fits : e < room) where
+    -- with all that can follow the row it is `taken`, and then the coordinate is left
+    turned : (b₁ b₂ : List ℕ) (taken k : ℕ) → taken ≤ low → taken ≡ found (j + (suc room - suc e)) j (nextRow p r) (suc e) (v ∷ newest b e) low
+        → newest b₁ e ≡ newest b e → length b₁ ≡ length b → Searched p powers f (j - 1) (firstRow powers (j - 1)) e b₁ b₂ taken k
+        → Searched p powers f j r e b b₂ w k
+    turned b₁ b₂ taken k less takes kept sized leaves =
+        let i = j - 1 in
+        let n = i + (suc room - e) in
+        let here : j ≡ suc i = omega arith in
+        let turns : suc i + (suc room - e) ≡ suc n = omega arith in
+        let one-less : suc i + (suc room - suc e) ≡ n = omega arith in
+        let low-is : low ≡ min w (suc e + size v) = lowers ∙ ap (λ (x : ℕ). min w (x + size v)) (add-one e) in
+        rw here (record {
+          found =
+              rw (turns, search-goes-on (firstRow powers) (nextRow p) f n i r e (newest b e) w on)
+              ((rw kept at (leaves .found)) ∙ ap (found n i (firstRow powers i) e (newest b e)) (rw (here, one-less, low-is, reduces) at takes));
+          less = omega (arith, leaves .less);
+          kept = leaves .kept ∙ kept;
+          sized = leaves .sized ∙ sized;
+        })
 
-  -- nothing that follows the row can be lighter
-  pub passed : (j r e : ℕ) (b b₂ : List ℕ) (w v least k : ℕ) → (j ≡ 0 → ⊥) → e + f < w → v ≡ reduce (newest b e) r → least ≡ min w (e + 1 + size v)
-      → least ≤ e + 1 + f → e < suc room → Searched p powers f (j - 1) (firstRow powers (j - 1)) e b b₂ least k → Searched p powers f j r e b b₂ w k
-  passed j r e b b₂ w v least k some on reduces lower full fits =
-      turned j r e b b b₂ w v least least k some on reduces lower (omega arith) (sym (ends _ j _ (suc e) _ least (inr (omega arith)))) refl refl fits
+    -- nothing that follows the row can be lighter
+    pub passed : (b₂ : List ℕ) (k : ℕ) → low ≤ e + 1 + f → Searched p powers f (j - 1) (firstRow powers (j - 1)) e b b₂ low k → Searched p powers f j r e b b₂ w k
+    passed b₂ k full = turned b b₂ low k (omega arith) (sym (ends _ j _ (suc e) _ low (inr (omega arith)))) refl refl
 
-  pub followed : (j r e : ℕ) (b b₁ b₂ : List ℕ) (w v least next taken k : ℕ) → (j ≡ 0 → ⊥) → e + f < w → v ≡ reduce (newest b e) r
-      → least ≡ min w (e + 1 + size v) → next ≡ nextRow p r → e < room → e < length b
-      → Searched p powers f j next (e + 1) (set b e v) b₁ least taken → Searched p powers f (j - 1) (firstRow powers (j - 1)) e b₁ b₂ taken k
-      → Searched p powers f j r e b b₂ w k
-  followed j r e b b₁ b₂ w v least next taken k some on reduces lower moves small fits takes =
-      turned j r e b b₁ b₂ w v least taken k some on reduces lower (takes .less)
-      (rw (newest-set b e v fits, add-one e, moves) at (takes .found))
-      (newest-older b₁ (set b e v) e (takes .kept) ∙ newest-kept b e v) (takes .sized ∙ length-set b e v) (omega arith)
+    pub followed : (b₁ b₂ : List ℕ) (next taken k : ℕ) → next ≡ nextRow p r → e < length b → Searched p powers f j next (e + 1) (set b e v) b₁ low taken
+        → Searched p powers f (j - 1) (firstRow powers (j - 1)) e b₁ b₂ taken k → Searched p powers f j r e b b₂ w k
+    followed b₁ b₂ next taken k moves long takes =
+        turned b₁ b₂ taken k (takes .less) (rw (newest-set b e v long, add-one e, moves) at (takes .found))
+        (newest-older b₁ (set b e v) e (takes .kept) ∙ newest-kept b e v) (takes .sized ∙ length-set b e v)
 
   -- the first row of coordinate j is taken
-  pub levelled : (j w next least k : ℕ) → next ≡ nextRow p (firstRow powers j) → least ≡ min w (1 + size (firstRow powers j)) → k ≤ least
-      → k ≡ found (j + room) j next 1 (firstRow powers j ∷ []) least → Levelled p powers f j w k
+  pub levelled : (j w next low k : ℕ) → next ≡ nextRow p (firstRow powers j) → low ≡ min w (1 + size (firstRow powers j)) → k ≤ low
+      → k ≡ found (j + room) j next 1 (firstRow powers j ∷ []) low → Levelled p powers f j w k
   unfolding level
-  levelled j w next least k moves lower less e =
-      record { found = e ∙ ap₂ (λ (n l : ℕ). found (j + room) j n 1 (firstRow powers j ∷ []) l) moves lower; less = omega arith }
+  levelled j w next low k moves lowers less e =
+      record { found = e ∙ ap₂ (λ (n l : ℕ). found (j + room) j n 1 (firstRow powers j ∷ []) l) moves lowers; less = omega arith }

@@ -32,7 +32,7 @@ pub record Stop (m p q f : ℕ) : Type 0 where
 pub stop-any : (m p q : ℕ) → HasDegree p m → Stop m p q 1
 stop-any m p q h = record { low = omega arith; high = omega arith; sound = stop-one m p h q }
 
-pub stop-inverse : (m p q r : ℕ) → HasDegree p m → rem (prod r q) p ≡ rem 1 p → Stop m p q 2
+stop-inverse : (m p q r : ℕ) → HasDegree p m → rem (prod r q) p ≡ rem 1 p → Stop m p q 2
 stop-inverse m p q r h inverse = record { low = omega arith; high = omega arith; sound = stop-two m p h q r inverse }
 
 pub stop-accepted : (m p q : ℕ) → 1 ≤ m → HasDegree p m → 0 < q → q < 2 ^ m → accepted m p q ≡ true → Stop m p q 2

@@ -5,7 +5,7 @@ use mathlib.Core.List.{List, [], _∷_}
 use Prim.Native.Nat.{ℕ, zero, suc, _+_, _-_, _*_, _≤_, _<_}
 use lib.ListN.{getD, length}
 use Rattle.definitions.specs.Polynomial.{rem}
-use Rattle.net_laws.specs.Share.{digitRow}
+use Rattle.net_laws.specs.Point.{digitRow}
 use Rattle.net_laws.specs.Search.{search}
 use Rattle.net_laws.specs.Weight.{level}
 
@@ -31,14 +31,14 @@ firstRow powers j = getD powers j 0
 abbrev pub nextRow : ℕ → ℕ → ℕ
 nextRow p r = rem (2 * r) p
 
--- k is the least weight found with e rows taken, from the row r of coordinate j on; the vectors of these rows are kept.
-pub record Searched (p : ℕ) (powers : List ℕ) (f j r e : ℕ) (b after : List ℕ) (w k : ℕ) : Type 0 where
-  pub found : k ≡ search (firstRow powers) (nextRow p) f (j + (suc room - e)) j r e (newest b e) w
-  pub less : k ≤ w
-  pub kept : newest after e ≡ newest b e
-  pub sized : length after ≡ length b
+-- k is the least weight with the rows taken and what can follow them, from this row of the coordinate on; their vectors are kept.
+pub record Searched (p : ℕ) (powers : List ℕ) (bound coordinate row taken : ℕ) (basis after : List ℕ) (least k : ℕ) : Type 0 where
+  pub found : k ≡ search (firstRow powers) (nextRow p) bound (coordinate + (suc room - taken)) coordinate row taken (newest basis taken) least
+  pub less : k ≤ least
+  pub kept : newest after taken ≡ newest basis taken
+  pub sized : length after ≡ length basis
 
--- k is the least weight with coordinate j, where w is the least without it.
-pub record Levelled (p : ℕ) (powers : List ℕ) (f j w k : ℕ) : Type 0 where
-  pub found : k ≡ level (firstRow powers) (nextRow p) f room j w
-  pub less : k ≤ w
+-- k is the least weight with the coordinate, where `least` is that without it.
+pub record Levelled (p : ℕ) (powers : List ℕ) (bound coordinate least k : ℕ) : Type 0 where
+  pub found : k ≡ level (firstRow powers) (nextRow p) bound room coordinate least
+  pub less : k ≤ least

@@ -1,7 +1,5 @@
 // The powers of q modulo p, each the first row of its coordinate.
 use polynomial::residues::mul_mod;
-ghost use mathlib.Core.Path.{_≡_};
-ghost use Prim.Native.Nat.{_<_};
 ghost use Rattle.polynomial.specs.Modulus.{Modulus};
 ghost use Rattle.net.specs.Search.{Residues, Powers};
 

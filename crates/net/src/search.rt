@@ -1,7 +1,7 @@
-// The search for the least weight of a relation, one row taken at a time.
+// The search for the least weight of rows that are not free, one row taken at a time.
 use polynomial::residues::times_x;
 ghost use mathlib.Core.Path.{_≡_};
-ghost use Prim.Native.Nat.{_+_, _*_, _^_, _<_, _≤_};
+ghost use Prim.Native.Nat.{_<_, _≤_};
 ghost use lib.ListN.{length};
 ghost use Rattle.polynomial.specs.Modulus.{Modulus};
 ghost use Rattle.net_laws.specs.Reduction.{reduce as reduceAll};
@@ -10,20 +10,20 @@ ghost use Rattle.net.specs.Search.{Residues, newest, Searched, Levelled}
 
 // How many binary digits v has.
 pub fn size(v: u32) -> usize
-    ensures { λ k. ⌜ (k ≡ sizeOf v) × (k ≤ 32) ⌝ }
+    ensures { λ digits. ⌜ (digits ≡ sizeOf v) × (digits ≤ 32) ⌝ }
 {
     (32 - u32::leading_zeros(v)) as usize
 }
 
-// r reduced by the first e vectors of b, the oldest first: each is added where that makes it smaller.
-pub fn reduce(b: &[u32; 32], e: usize, r: u32) -> u32
-    requires { ⌜ e ≤ 32 ⌝ }
-    ensures { λ v. ⌜ v ≡ reduceAll (newest (now (b .entry)) e) r ⌝ }
+// The row reduced by the basis of the rows taken, the oldest vector first: each is added where that makes it smaller.
+pub fn reduce(basis: &[u32; 32], taken: usize, row: u32) -> u32
+    requires { ⌜ taken ≤ 32 ⌝ }
+    ensures { λ v. ⌜ v ≡ reduceAll (newest (now (basis .entry)) taken) row ⌝ }
 {
-    let mut v = r;
-    let mut left = e;
+    let mut v = row;
+    let mut left = taken;
     while left > 0 {
-        let sum = v ^ b[e - left];
+        let sum = v ^ basis[taken - left];
         if sum < v {
             v = sum;
         }
@@ -32,59 +32,71 @@ pub fn reduce(b: &[u32; 32], e: usize, r: u32) -> u32
     v
 }
 
-// The least weight of a relation with e rows taken, from row r of coordinate j on; w is the least so far, and f rows are the fewest to come.
+// The least weight with the rows taken and what can follow them, from this row of the coordinate on; `least` is the least so far, and what is to
+// come weighs at least `bound`.
 pub fn search(
-    j: usize,
-    e: usize,
-    w: usize,
-    r: u32,
-    b: &mut [u32; 32],
+    coordinate: usize,
+    taken: usize,
+    least: usize,
+    row: u32,
+    basis: &mut [u32; 32],
     powers: &[u32; 8],
-    f: usize,
+    bound: usize,
     p: u32,
     top: u32,
 ) -> usize
     requires { ⌜ Modulus p top ⌝ }
-    requires { ⌜ r < top ⌝ }
+    requires { ⌜ row < top ⌝ }
     requires { ⌜ Residues top (now powers) ⌝ }
-    requires { ⌜ (1 ≤ f) × (f ≤ 2) × (j < 8) × (e < 32) × (w ≤ 32) ⌝ }
-    requires { ⌜ length (now b) ≡ 32 ⌝ }
-    ensures { λ k. ⌜ Searched p (now (powers .entry)) f j r e (now (b .entry)) (now (b .exit)) w k ⌝ }
+    requires { ⌜ (1 ≤ bound) × (bound ≤ 2) × (coordinate < 8) × (taken < 32) × (least ≤ 32) ⌝ }
+    requires { ⌜ length (now basis) ≡ 32 ⌝ }
+    ensures { λ found. ⌜ Searched p (now (powers .entry)) bound coordinate row taken (now (basis .entry)) (now (basis .exit)) least found ⌝ }
 {
-    if j == 0 {
-        return w;
+    if coordinate == 0 {
+        return least;
     }
-    if e + f >= w {
-        return w;
+    if taken + bound >= least {
+        return least;
     }
-    let v = reduce(b, e, r);
-    let mut least = e + 1 + size(v);
-    if w < least {
-        least = w;
+    let v = reduce(basis, taken, row);
+    let more = taken + 1;
+    let mut low = more + size(v);
+    if least < low {
+        low = least;
     }
-    if e + 1 + f >= least {
-        return search(j - 1, e, least, powers[j - 1], b, powers, f, p, top);
+    let below = coordinate - 1;
+    if more + bound >= low {
+        let first = powers[below];
+        return search(below, taken, low, first, basis, powers, bound, p, top);
     }
-    b[e] = v;
-    let next = times_x(r, p, top);
-    let taken = search(j, e + 1, least, next, b, powers, f, p, top);
-    search(j - 1, e, taken, powers[j - 1], b, powers, f, p, top)
+    basis[taken] = v;
+    let next = times_x(row, p, top);
+    let followed = search(coordinate, more, low, next, basis, powers, bound, p, top);
+    let first = powers[below];
+    search(below, taken, followed, first, basis, powers, bound, p, top)
 }
 
-// The least weight with coordinate j, where w is the least without it.
-pub fn level(j: usize, w: usize, powers: &[u32; 8], f: usize, p: u32, top: u32) -> usize
+// The least weight with one coordinate more, where `least` is that without it.
+pub fn level(
+    coordinate: usize,
+    least: usize,
+    powers: &[u32; 8],
+    bound: usize,
+    p: u32,
+    top: u32,
+) -> usize
     requires { ⌜ Modulus p top ⌝ }
     requires { ⌜ Residues top (now powers) ⌝ }
-    requires { ⌜ (1 ≤ f) × (f ≤ 2) × (0 < j) × (j < 8) × (w ≤ 32) ⌝ }
-    ensures { λ k. ⌜ Levelled p (now (powers .entry)) f j w k ⌝ }
+    requires { ⌜ (1 ≤ bound) × (bound ≤ 2) × (0 < coordinate) × (coordinate < 8) × (least ≤ 32) ⌝ }
+    ensures { λ found. ⌜ Levelled p (now (powers .entry)) bound coordinate least found ⌝ }
 {
-    let r = powers[j];
-    let mut b: [u32; 32] = [0; 32];
-    b[0] = r;
-    let mut least = 1 + size(r);
-    if w < least {
-        least = w;
+    let row = powers[coordinate];
+    let mut basis: [u32; 32] = [0; 32];
+    basis[0] = row;
+    let mut low = 1 + size(row);
+    if least < low {
+        low = least;
     }
-    let next = times_x(r, p, top);
-    search(j, 1, least, next, &mut b, powers, f, p, top)
+    let next = times_x(row, p, top);
+    search(coordinate, 1, low, next, &mut basis, powers, bound, p, top)
 }

@@ -1,8 +1,8 @@
--- Additive functions, f (a ⊕ b) = f a ⊕ f b, are told by their values at the powers of x: below 2^d by those below x^d, taking the leading
--- term away from the largest numbers. The digit at a place is such a function.
+-- Additive functions, f (a ⊕ b) = f a ⊕ f b. Two that agree at the powers of x below x^d agree at all numbers below 2^d: a number with the leading
+-- term x^(d-1) is that and something smaller. The digit at a place is additive.
 -- Assumes nothing.
-use mathlib.Core.Path.{_≡_, refl, sym, ap, ap₂, _∙_}
-use Prim.Native.Nat.{ℕ, zero, suc, _*_, _/_, _%_, _^_, _<_}
+use mathlib.Core.Path.{_≡_, sym, ap, ap₂, _∙_}
+use Prim.Native.Nat.{ℕ, zero, suc, _/_, _%_, _^_, _<_}
 use native.Mathlib.Nat.{pow-suc, div-eq-of-lt}
 use native.Mathlib.Omega.{arith}
 use native.Mathlib.Decide.{decLt}
@@ -19,15 +19,14 @@ Additive f = (a b : ℕ) → f (a ⊕ b) ≡ f a ⊕ f b
 unfoldable pub digitAt : ℕ → ℕ → ℕ
 digitAt k v = v / 2 ^ k % 2
 
-pub nothing-additive : Additive (λ a. 0)
-nothing-additive a b = sym (⊕-self 0)
+pub zero-additive : Additive (λ a. 0)
+zero-additive a b = sym (⊕-self 0)
 
-pub additive-nothing : (f : ℕ → ℕ) → Additive f → f 0 ≡ 0
-additive-nothing f sums = ap f (nothing-additive 0 0) ∙ sums 0 0 ∙ ⊕-self (f 0)
+pub additive-zero : (f : ℕ → ℕ) → Additive f → f 0 ≡ 0
+additive-zero f sums = ap f (zero-additive 0 0) ∙ sums 0 0 ∙ ⊕-self (f 0)
 
--- Two that agree at the powers of x below x^d agree below 2^d.
 pub additive-agree : (f g : ℕ → ℕ) → Additive f → Additive g → (d : ℕ) → ((i : ℕ) → i < d → f (2 ^ i) ≡ g (2 ^ i)) → (v : ℕ) → v < 2 ^ d → f v ≡ g v
-additive-agree f g f-sums g-sums zero powers v small = rw (lt-one small) (additive-nothing f f-sums ∙ sym (additive-nothing g g-sums))
+additive-agree f g f-sums g-sums zero powers v small = rw (lt-one small) (additive-zero f f-sums ∙ sym (additive-zero g g-sums))
 additive-agree f g f-sums g-sums (suc d) powers v small = at (decLt v (2 ^ d)) (additive-agree f g f-sums g-sums d (λ i l. powers i (omega arith)))
   where
     at : Dec (v < 2 ^ d) → ((u : ℕ) → u < 2 ^ d → f u ≡ g u) → f v ≡ g v

@@ -1,13 +1,13 @@
--- Counting in cells. A cell of some rows is a test of h that asks one digit of each row's pairing with h. Rows are free over the powers below
--- x^d if each, reduced by the older ones, is at least 2^d. Then some vector turns the newest row's digit and no other, so that translating by
--- it halves the count: every cell has its share, 2^m over 2 for each row and power. A row that is not free asks nothing new of the cell with
--- all digits 0, which so has more than its share.
+-- Counting in cells. A cell of some rows is a test of h that asks for one digit of each row's pairing with h. Rows are free over the powers below
+-- x^d if each, reduced by the older ones, is at least 2^d. Then some vector turns the newest row's digit and no other, and translating by it
+-- halves the count: every cell has its share of the 2^m points, 1/2 for each row and power. A row that is not free asks nothing new of the cell
+-- that asks for zeros, which so has twice its share at least.
 -- Assumes nothing.
 use mathlib.Core.Path.{_≡_, refl, sym, ap, ap₂, _∙_}
 use mathlib.Core.Logic.{_⊎_, inl, inr}
-use mathlib.Core.Bool.{Bool, true, false, not, _&&_, and-comm, and-eq-true-iff}
+use mathlib.Core.Bool.{Bool, true, not, _&&_, and-comm, and-eq-true-iff}
 use mathlib.Core.List.{List, [], _∷_}
-use Prim.Native.Nat.{ℕ, zero, suc, _+_, _*_, _^_, _≤_, _<_}
+use Prim.Native.Nat.{ℕ, suc, _+_, _*_, _^_, _≤_, _<_}
 use native.Mathlib.Nat.{pow-suc, suc-add}
 use native.Mathlib.Omega.{arith}
 use native.Mathlib.Decide.{decLe, ℕ-discrete}
@@ -22,7 +22,7 @@ use Rattle.polynomial_laws.specs.Sum.{⊕-comm, ⊕-zero, ⊕-lt, ⊕-injective
 use Rattle.polynomial_laws.specs.Degree.{degree-is, degree-least}
 use Rattle.number_laws.specs.Truth.{truth-equal}
 use Rattle.number_laws.specs.Count.{count-ext, count-all, count-split, count-permute}
-use Rattle.net_laws.specs.Additive.{Additive, nothing-additive, additive-agree, digitAt, digitAt-lt, digitAt-additive, digitAt-small, digitAt-leading}
+use Rattle.net_laws.specs.Additive.{Additive, zero-additive, additive-agree, digitAt, digitAt-lt, digitAt-additive, digitAt-small, digitAt-leading}
 use Rattle.net_laws.specs.Reduction.{reduced, Each, each-map, reduce, basis, reduce-additive, reduce-le, reduced-rows, reduced-unseen}
 use Rattle.net_laws.specs.Pairing.{pairing, pairing-lt, pairing-additive, pairing-additive-left, pairing-zero, partner, partner-lt, partner-pairs}
 
@@ -49,7 +49,7 @@ pub data Cell (p : ℕ) : ℕ → List ℕ → (ℕ → Bool) → Type 0 where
 abbrev pub passing : ℕ → (ℕ → Bool) → ℕ
 passing p T = count (2 ^ degree p) T
 
--- the other digit
+-- of two digits one is asked for, or the other
 eqb-turned : {a c : ℕ} → Digit a → Digit c → eqb (a ⊕ 1) c ≡ not (eqb a c)
 unfolding _⊕_
 eqb-turned off off = refl
@@ -121,7 +121,7 @@ module _ (p : ℕ) (pos : 0 < p) where
       rw e (twice _ _ (0 + d) (cell-half {rs = []} (omega arith) c q) ∙ cell-count c tt)
   cell-count (at-row {d} {rs = rs} c q) free = rw (suc-add (length rs) d) (twice _ _ (length rs + d) (cell-half (free .0) c q) ∙ cell-count c (free .1))
 
-  -- ---- the cell with all digits 0
+  -- ---- the cell that asks for zeros
   -- a point in it is paired to 0 with the rows and the powers
   zeros : {d : ℕ} {rs : List ℕ} {T : ℕ → Bool} → Cell p d rs T → T 0 ≡ true → (h : ℕ) → T h ≡ true
       → Each (λ r. pairing p r h ≡ 0) rs × ((i : ℕ) → i < d → pairing p (2 ^ i) h ≡ 0)
@@ -135,24 +135,35 @@ module _ (p : ℕ) (pos : 0 < p) where
 
   -- a row that is not free asks nothing new
   cell-same : {d r : ℕ} {rs : List ℕ} {P T : ℕ → Bool} → reduced rs r < 2 ^ d → Cell p d rs P → Asks p r P T → T 0 ≡ true → passing p T ≡ passing p P
-  cell-same {d} {r} {rs} {P} {T} low c q z = count-ext (2 ^ degree p) T P (λ h l. truth-equal (T h) (P h) (λ t. asks-out q h t .1, λ t. q .says h ∙ ap₂ _&&_ (eq-eqb _ _ (none h t ∙ sym (asks-zero q z))) t))
+  cell-same {d} {r} {rs} {P} {T} low c q z = count-ext (2 ^ degree p) T P (λ h l. truth-equal (T h) (P h) (λ t. asks-out q h t .1, passes h))
     where
       none : (h : ℕ) → P h ≡ true → pairing p r h ≡ 0
       none h t =
           let all = zeros c (asks-out q 0 z .1) h t in
           let g : ℕ → ℕ = λ x. pairing p x h in
           let sums : Additive g = pairing-additive-left p pos h in
-          sym (reduced-unseen g sums rs (all .0) r) ∙ additive-agree g (λ x. 0) sums nothing-additive d (all .1) (reduced rs r) low
+          sym (reduced-unseen g sums rs (all .0) r) ∙ additive-agree g (λ x. 0) sums zero-additive d (all .1) (reduced rs r) low
 
-  -- it has its share only if the rows are free
-  pub cell-free : {d : ℕ} {rs : List ℕ} {T : ℕ → Bool} → Cell p d rs T → T 0 ≡ true → Free d rs ⊎ (2 * 2 ^ degree p ≤ passing p T * 2 ^ (length rs + d))
+      passes : (h : ℕ) → P h ≡ true → T h ≡ true
+      passes h t = q .says h ∙ ap₂ _&&_ (eq-eqb _ _ (none h t ∙ sym (asks-zero q z))) t
+
+  -- it has its share, or twice that at least
+  zeros-count : {d : ℕ} {rs : List ℕ} {T : ℕ → Bool} → Cell p d rs T → T 0 ≡ true → Free d rs ⊎ (2 * 2 ^ degree p ≤ passing p T * 2 ^ (length rs + d))
   unfolding Free
-  cell-free (whole all) z = inl tt
-  cell-free (at-power c q) z = inl tt
-  cell-free (at-row {d} {r} {rs} {P} {T} c q) z = rw (suc-add (length rs) d) (go (decLe (2 ^ d) (reduced rs r)) (cell-free c (asks-out q 0 z .1)))
+  zeros-count (whole all) z = inl tt
+  zeros-count (at-power c q) z = inl tt
+  zeros-count (at-row {d} {r} {rs} {P} {T} c q) z = rw (suc-add (length rs) d) (go (decLe (2 ^ d) (reduced rs r)) (zeros-count c (asks-out q 0 z .1)))
     where
-      go : Dec (2 ^ d ≤ reduced rs r) → Free d rs ⊎ (2 * 2 ^ degree p ≤ passing p P * 2 ^ (length rs + d)) → Free d (r ∷ rs) ⊎ (2 * 2 ^ degree p ≤ passing p T * 2 ^ suc (length rs + d))
+      go : Dec (2 ^ d ≤ reduced rs r) → Free d rs ⊎ (2 * 2 ^ degree p ≤ passing p P * 2 ^ (length rs + d))
+          → Free d (r ∷ rs) ⊎ (2 * 2 ^ degree p ≤ passing p T * 2 ^ suc (length rs + d))
       go (yes l) (inl f) = inl (l, f)
       go (yes l) (inr b) = inr (omega (arith, twice _ _ (length rs + d) (cell-half l c q)))
       go (no l) (inl f) = inr (rw (cell-same (omega arith) c q z, pow-suc 2 (length rs + d)) (omega (arith, cell-count c f)))
       go (no l) (inr b) = inr (rw (cell-same (omega arith) c q z, pow-suc 2 (length rs + d)) (omega arith))
+
+  pub cell-free : {d : ℕ} {rs : List ℕ} {T : ℕ → Bool} → Cell p d rs T → T 0 ≡ true → passing p T * 2 ^ (length rs + d) ≡ 2 ^ degree p → Free d rs
+  cell-free {d} {rs} {T} c z share = go (zeros-count c z)
+    where
+      go : Free d rs ⊎ (2 * 2 ^ degree p ≤ passing p T * 2 ^ (length rs + d)) → Free d rs
+      go (inl free) = free
+      go (inr over) = absurd (omega (arith, pow-pos (degree p)))

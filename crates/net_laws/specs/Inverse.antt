@@ -1,5 +1,5 @@
--- Where q has an inverse modulo p the search may count on 2. For then h ↦ q h mod p permutes the points and moves every coordinate down by one, so
--- that rows without a power of x are free as soon as those one coordinate lower are: of the same weight, and without the last coordinate.
+-- Where q has an inverse modulo p, the bound 2 serves the search. For then h ↦ q h mod p permutes the points and moves each coordinate down by one, so
+-- that a share with no digit of coordinate 0 is as free as that one coordinate lower: of the same weight, and without the last coordinate.
 -- Assumes nothing.
 use mathlib.Core.Path.{_≡_, refl, sym, ap, ap₂, _∙_}
 use mathlib.Core.Bool.{Bool, _&&_}
@@ -8,37 +8,33 @@ use Prim.Native.Nat.{ℕ, zero, suc, _+_, _^_, _≤_, _<_}
 use native.Mathlib.Omega.{arith}
 use lib.Dec.{eqb}
 use lib.ListN.{length}
-use lib.Pow.{pow-pos}
 use borrow.Author.Tests.{eq-eqb}
 use Rattle.definitions.specs.Polynomial.{degree, prod, power, rem}
 use Rattle.definitions.specs.Points.{leading, coordinate}
 use Rattle.definitions.specs.Net.{inBox}
 use Rattle.number_laws.specs.Count.{count-ext, count-permute}
-use Rattle.polynomial_laws.specs.Product.{prod-comm, prod-assoc, one-prod}
+use Rattle.polynomial_laws.specs.Product.{prod-assoc, prod-factors, one-prod}
 use Rattle.polynomial_laws.specs.Division.{rem-lt, rem-small, rem-prod-left, rem-prod-right}
 use Rattle.polynomial_laws.specs.Power.{power-suc}
 use Rattle.net_laws.specs.Cell.{Free, passing}
 use Rattle.net_laws.specs.Net.{total, Box, none, more}
-use Rattle.net_laws.specs.Smallest.{leading-none}
-use Rattle.net_laws.specs.Share.{digitRow, rowsOf, length-rowsOf, corner, corner-box, free-box, box-free}
-use Rattle.net_laws.specs.Search.{Floor}
-use Rattle.net_laws.specs.Weight.{Sound, Least, share-reach, reach-share}
+use Rattle.net_laws.specs.Point.{digitRow, leading-none}
+use Rattle.net_laws.specs.Share.{FreeShare, rowsOf, length-rowsOf, corner, corner-box, free-box, box-free}
+use Rattle.net_laws.specs.Search.{share-reach, reach-share}
+use Rattle.net_laws.specs.Weight.{Sound}
 
-module _ (p : ℕ) (pos : 0 < p) (q r : ℕ) (inverse : rem (prod r q) p ≡ rem 1 p) where
+module _ (p : ℕ) (pos : 0 < p) (q back : ℕ) (inverse : rem (prod back q) p ≡ rem 1 p) where
   abbrev moved : ℕ → ℕ
   moved h = rem (prod q h) p
 
-  -- r moves back
-  moved-back : (h : ℕ) → h < 2 ^ degree p → rem (prod r (moved h)) p ≡ h
+  -- and back
+  moved-back : (h : ℕ) → h < 2 ^ degree p → rem (prod back (moved h)) p ≡ h
   moved-back h l =
-      rem-prod-right p pos r (prod q h) ∙ ap (λ (z : ℕ). rem z p) (sym (prod-assoc r q h)) ∙ sym (rem-prod-left p pos (prod r q) h)
-      ∙ ap (λ (z : ℕ). rem (prod z h) p) inverse ∙ rem-prod-left p pos 1 h ∙ ap (λ (z : ℕ). rem z p) (one-prod h) ∙ rem-small p pos h l
+      rw (rem-prod-right p pos back (prod q h), ← prod-assoc back q h, ← rem-prod-left p pos (prod back q) h, inverse, rem-prod-left p pos 1 h, one-prod h) (rem-small p pos h l)
 
   coordinate-moved : (j h : ℕ) → coordinate p q (suc j) h ≡ coordinate p q j (moved h)
   unfolding coordinate
-  coordinate-moved j h =
-      ap (λ (z : ℕ). rem (prod h z) p) (power-suc q j) ∙ ap (λ (z : ℕ). rem z p) (sym (prod-assoc h q (power q j)) ∙ ap (λ (z : ℕ). prod z (power q j)) (prod-comm h q))
-      ∙ sym (rem-prod-left p pos (prod q h) (power q j))
+  coordinate-moved j h = rw (power-suc q j, rem-prod-left p pos (prod q h) (power q j)) (simp prod-factors)
 
   inBox-moved : {ds rs : List ℕ} → Box ds rs → (j h : ℕ) → inBox p q (suc j) ds rs h ≡ inBox p q j ds rs (moved h)
   unfolding inBox
@@ -52,9 +48,9 @@ module _ (p : ℕ) (pos : 0 < p) (q r : ℕ) (inverse : rem (prod r q) p ≡ rem
       count-ext (2 ^ degree p) _ (λ h. inBox p q 0 ds (corner ds) (moved h))
       (λ h l. ap₂ _&&_ (eq-eqb _ 0 (leading-none p pos q 0 h)) (inBox-moved (corner-box ds) 0 h))
       ∙ count-permute (2 ^ degree p) moved (λ h l. rem-lt p pos (prod q h))
-      (λ h k a b e. sym (moved-back h a) ∙ ap (λ (z : ℕ). rem (prod r z) p) e ∙ moved-back k b) (inBox p q 0 ds (corner ds))
+      (λ h k a b e. sym (moved-back h a) ∙ ap (λ (z : ℕ). rem (prod back z) p) e ∙ moved-back k b) (inBox p q 0 ds (corner ds))
 
-  free-up : (d : ℕ) (ds : List ℕ) → d ≤ degree p → Free d (rowsOf (digitRow p q) 1 ds) → Free 0 (rowsOf (digitRow p q) 1 (d ∷ ds))
+  free-up : (d : ℕ) (ds : List ℕ) → d ≤ degree p → FreeShare p q d ds → FreeShare p q 0 (d ∷ ds)
   unfolding total
   free-up d ds fits free =
       let e : d + total ds + 0 ≡ total ds + d = omega arith in

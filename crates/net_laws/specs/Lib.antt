@@ -1,8 +1,9 @@
--- From sums of polynomials to t-values, in the order in which the laws build on each other.
+-- From additive functions to t-values, in the order in which the laws build on each other.
 pub mod Additive
 pub mod Reduction
 pub mod Pairing
 pub mod Cell
+pub mod Point
 pub mod Net
 pub mod Smallest
 pub mod Share

@@ -1,8 +1,8 @@
--- The pairing of r and h: the first digit of r h / p. It is additive in each, and of two powers of x it is 0 where they multiply to less than
--- x^(m-1) and 1 where to just that. So every additive function of digits below 2^m is the pairing with some h: its values at 1, x, .. are met
--- one after the other, the next by adding x^(m-1), x^(m-2), ...
+-- The pairing of r and h: the first digit of r h / p. It is additive in each, and two powers of x are paired to 0 where their product is less than
+-- x^(m-1), to 1 where it is x^(m-1). So every additive function that gives digits is, below 2^m, the pairing with some h: adding x^(m-1), x^(m-2), ..
+-- where it is wanting, h is made to give the right digit at 1, x, .. one after the other.
 -- Assumes nothing.
-use mathlib.Core.Path.{_≡_, refl, sym, ap, ap₂, _∙_}
+use mathlib.Core.Path.{_≡_, ap, _∙_}
 use Prim.Native.Nat.{ℕ, zero, suc, _+_, _-_, _*_, _/_, _^_, _≤_, _<_}
 use native.Mathlib.Nat.{pow-suc, add-zero, zero-mul, one-mul, mul-one, mul-zero, div-self, div-eq-of-lt}
 use native.Mathlib.Omega.{arith}
@@ -14,7 +14,7 @@ use Rattle.polynomial_laws.specs.Sum.{⊕-zero, ⊕-double, ⊕-shr, ⊕-lt, �
 use Rattle.polynomial_laws.specs.Division.{rem-small, rem-⊕, next-digit}
 use Rattle.polynomial_laws.specs.Product.{prod-⊕, prod-comm}
 use Rattle.polynomial_laws.specs.Power.{powers-prod}
-use Rattle.net_laws.specs.Additive.{Additive, additive-nothing, additive-agree}
+use Rattle.net_laws.specs.Additive.{Additive, additive-zero, additive-agree}
 
 unfoldable pub pairing : ℕ → ℕ → ℕ → ℕ
 pairing p r h = 2 * rem (prod r h) p / 2 ^ degree p
@@ -36,7 +36,7 @@ module _ (p : ℕ) (pos : 0 < p) where
   pairing-additive-left h a b = rw (pairing-comm p (a ⊕ b) h, pairing-comm p a h, pairing-comm p b h) (pairing-additive h a b)
 
   pub pairing-zero : (r : ℕ) → pairing p r 0 ≡ 0
-  pairing-zero r = additive-nothing (pairing p r) (pairing-additive r)
+  pairing-zero r = additive-zero (pairing p r) (pairing-additive r)
 
   -- ---- powers of x
   pairing-powers : (i j : ℕ) → i + j < degree p → pairing p (2 ^ i) (2 ^ j) ≡ 2 ^ suc (i + j) / 2 ^ degree p
@@ -56,7 +56,7 @@ module _ (p : ℕ) (pos : 0 < p) where
   pairing-digit on r v = simp one-mul
 
   module _ (f : ℕ → ℕ) (sums : Additive f) (binary : (v : ℕ) → f v < 2) where
-    -- paired with 1, x, .. x^(k-1) this gives what f does
+    -- right at 1, x, .. x^(k-1)
     upto : ℕ → ℕ
     upto zero = 0
     upto (suc k) = upto k ⊕ (f (2 ^ k) ⊕ pairing p (2 ^ k) (upto k)) * 2 ^ (degree p - suc k)
@@ -75,12 +75,17 @@ module _ (p : ℕ) (pos : 0 < p) where
     upto-pairs : (k : ℕ) → k ≤ degree p → (i : ℕ) → i < k → pairing p (2 ^ i) (upto k) ≡ f (2 ^ i)
     unfolding upto
     upto-pairs zero l i b = absurd (omega arith)
-    upto-pairs (suc k) l i b = pairing-additive (2 ^ i) (upto k) _ ∙ ap (λ (z : ℕ). pairing p (2 ^ i) (upto k) ⊕ z) (pairing-digit (wanting k) (2 ^ i) (2 ^ place)) ∙ at (ℕ-discrete i k) (upto-pairs k (omega arith) i)
+    upto-pairs (suc k) l i b =
+        pairing-additive (2 ^ i) (upto k) _ ∙ ap (λ (z : ℕ). now ⊕ z) (pairing-digit (wanting k) (2 ^ i) (2 ^ place))
+        ∙ at (ℕ-discrete i k) (upto-pairs k (omega arith) i)
       where
         place : ℕ
         place = degree p - suc k
 
-        at : Dec (i ≡ k) → (i < k → pairing p (2 ^ i) (upto k) ≡ f (2 ^ i)) → pairing p (2 ^ i) (upto k) ⊕ (f (2 ^ k) ⊕ pairing p (2 ^ k) (upto k)) * pairing p (2 ^ i) (2 ^ place) ≡ f (2 ^ i)
+        now : ℕ
+        now = pairing p (2 ^ i) (upto k)
+
+        at : Dec (i ≡ k) → (i < k → now ≡ f (2 ^ i)) → now ⊕ (f (2 ^ k) ⊕ pairing p (2 ^ k) (upto k)) * pairing p (2 ^ i) (2 ^ place) ≡ f (2 ^ i)
         at (yes e) ih = rw (e, pairing-leading k place (omega arith)) (simp (mul-one, ⊕-sums))
         at (no e) ih = rw (pairing-below i place (omega arith)) (simp (mul-zero, ⊕-zero) (ih (omega arith)))
 

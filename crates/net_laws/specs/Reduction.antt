@@ -2,7 +2,7 @@
 -- The smaller one is that without the digit at the degree of b, so reduction is additive. It never raises, it takes the rows that its vectors
 -- come from to 0, and an additive function that is 0 at these rows does not see it.
 -- Assumes nothing.
-use mathlib.Core.Path.{_≡_, refl, sym, ap, ap₂, _∙_}
+use mathlib.Core.Path.{_≡_, refl, ap, ap₂, _∙_}
 use mathlib.Core.List.{List, [], _∷_}
 use Prim.Native.Nat.{ℕ, zero, suc, _+_, _*_, _/_, _%_, _^_, _≤_, _<_, min}
 use native.Mathlib.Nat.{zero-mul, one-mul, mul-zero, lt-of-not-le}

@@ -1,12 +1,12 @@
--- The search for the least weight of rows that are not free, where rows weigh as much as they are many, and the powers of x with them. From rows
--- taken so far it takes the next row of coordinate j, and all that can follow it, and then leaves coordinate j; it stops where all that can
--- follow weighs as much as the least so far. So it never exceeds that, every rows that it can come to and that weigh less than its result
--- are free, and its result is the weight that it began with or that of rows that are not free.
+-- The search for the least weight of rows that are not free. Rows over c powers of x weigh as many as they are, and c more. From the rows taken so
+-- far it takes the next row of coordinate j, with all that can follow it, and then leaves coordinate j for the one below; it stops where all to
+-- come must weigh as much as the least weight so far. So of the rows that it can come to all lighter than its result are free, and its result
+-- is the weight that it began with or that of rows that are not free. What it can come to are the rows of shares.
 -- Assumes nothing.
 use mathlib.Core.Path.{_≡_, refl, ap}
 use mathlib.Core.Logic.{_⊎_, inl, inr}
 use mathlib.Core.Bool.{cond}
-use mathlib.Core.List.{List, _∷_}
+use mathlib.Core.List.{List, [], _∷_, _++_}
 use Prim.Native.Nat.{ℕ, zero, suc, _+_, _^_, _≤_, _<_, min}
 use native.Mathlib.Nat.{lt-of-not-le}
 use native.Mathlib.Omega.{arith}
@@ -16,12 +16,13 @@ use lib.ListN.{length}
 use borrow.Author.Tests.{lt-ltb, le-ltb}
 use Rattle.net_laws.specs.Reduction.{reduce, basis, reduced, min-either}
 use Rattle.net_laws.specs.Cell.{Free}
+use Rattle.net_laws.specs.Share.{firstRows, rowsOf}
 use Rattle.net_laws.specs.Size.{size, size-le}
 
 -- ---- the search
--- `start j` is the first row of coordinate j and `next r` the row behind r; f is the fewest that rows to come can weigh, the next one counted.
+-- `start j` is the first row of coordinate j, and `next r` the one behind r. What is to come weighs f at least.
 module _ (start next : ℕ → ℕ) (f : ℕ) where
-  -- r is the next row of coordinate j, bs the vectors of the e rows taken, W the least weight so far; at most n turns.
+  -- r is the next row of coordinate j, bs are the vectors of the e rows taken, and W is the least weight so far; in at most n turns.
   unfoldable pub search : ℕ → ℕ → ℕ → ℕ → List ℕ → ℕ → ℕ
   search zero j r e bs W = W
   search (suc n) zero r e bs W = W
@@ -39,15 +40,15 @@ module _ (start next : ℕ → ℕ) (f : ℕ) where
     unfolding search
     search-goes-on l = rw (lt-ltb (e + f) W l)
 
--- ---- what it can come to
 module _ (G : ℕ → ℕ → ℕ) where
-  -- From rows rs, of which d are of coordinate j, to rows `all`: some more of j, and some of each coordinate below it down to 1.
+  -- ---- what it can come to
+  -- From rows rs, d of them of coordinate j, to rows `all`: with some more of j, and then some of each coordinate below, down to 1.
   pub data Reach : ℕ → ℕ → List ℕ → List ℕ → Type 0 where
     here : {rs : List ℕ} → Reach 0 0 rs rs
     leave : {j d : ℕ} {rs all : List ℕ} → Reach j 0 rs all → Reach (suc j) d rs all
     take : {j d : ℕ} {rs all : List ℕ} → Reach (suc j) (suc d) (G (suc j) d ∷ rs) all → Reach (suc j) d rs all
 
-  pub reach-same : (j : ℕ) {rs : List ℕ} → Reach j 0 rs rs
+  reach-same : (j : ℕ) {rs : List ℕ} → Reach j 0 rs rs
   reach-same zero = here
   reach-same (suc j) = leave (reach-same j)
 
@@ -63,82 +64,111 @@ module _ (G : ℕ → ℕ → ℕ) where
       go (inl e) = omega (arith, ap length e)
       go (inr l) = omega arith
 
-  -- what rows of that weight would be
+  -- ---- the rows of shares, and no others
+  take-all : (j d : ℕ) {rs all : List ℕ} → Reach (suc j) d (firstRows (G (suc j)) d ++ rs) all → Reach (suc j) 0 rs all
+  unfolding firstRows
+  take-all j zero x = x
+  take-all j (suc d) x = take-all j d (take x)
+
+  from-above : (j : ℕ) (ds : List ℕ) {all : List ℕ} → Reach j 0 (rowsOf G (suc j) ds) all → Reach (j + length ds) 0 [] all
+  unfolding rowsOf
+  from-above j [] x = let e : j + 0 ≡ j = omega arith in rw e x
+  from-above j (d ∷ ds) x = let e : j + suc (length ds) ≡ suc j + length ds = omega arith in rw e (from-above (suc j) ds (take-all j d (leave x)))
+
+  pub share-reach : (j : ℕ) (ds : List ℕ) → length ds ≡ j → Reach j 0 [] (rowsOf G 1 ds)
+  share-reach j ds len = let e : 0 + length ds ≡ j = omega arith in rw e at (from-above 0 ds here)
+
+  -- from the rows of a share that has d of coordinate j, and ds of those above
+  reach-from : {j d : ℕ} {rs all : List ℕ} → Reach j d rs all → (ds : List ℕ) → rs ≡ rowsOf G j (d ∷ ds)
+      → (es : List ℕ) × (length es ≡ j + length ds) × (all ≡ rowsOf G 1 es)
+  unfolding rowsOf firstRows
+  reach-from here ds e = (ds, omega arith, e)
+  reach-from (leave {d = d} x) ds e = let r = reach-from x (d ∷ ds) e in (r .0, omega (arith, r .1), r .2)
+  reach-from (take {j} {d} x) ds e = reach-from x ds (ap (λ (rows : List ℕ). G (suc j) d ∷ rows) e)
+
+  pub reach-share : {j : ℕ} {all : List ℕ} → Reach j 0 [] all → (es : List ℕ) × (length es ≡ j) × (all ≡ rowsOf G 1 es)
+  unfolding rowsOf firstRows
+  reach-share x = let r = reach-from x [] refl in (r .0, omega (arith, r .1), r .2)
+
+  -- ---- what it finds
   abbrev pub Lighter : ℕ → ℕ → List ℕ → ℕ → Type 0
   Lighter j d rs W = (all : List ℕ) → Reach j d rs all → (c : ℕ) → length all + c < W → Free c all
 
-  module _ (f : ℕ) where
-    -- rows lighter than W with fewer than f - 1 powers are free, and so the bound f is right
-    abbrev pub Floor : ℕ → ℕ → List ℕ → ℕ → Type 0
-    Floor j d rs W = (all : List ℕ) → Reach j d rs all → (c : ℕ) → suc c < f → length all + c < W → Free c all
+  -- w is right, where the search began with W.
+  pub record Best (j d : ℕ) (rs : List ℕ) (W w : ℕ) : Type 1 where
+    pub less : w ≤ W
+    pub lighter : Lighter j d rs w
+    pub from : (Q : ℕ → Type 0) → Q W → ((all : List ℕ) → Reach j d rs all → (c : ℕ) → (Free c all → ⊥) → Q (length all + c)) → Q w
 
-    abbrev pub Covered : List ℕ → ℕ → Type 0
-    Covered rs W = (c : ℕ) → length rs + c < W → Free c rs
+  -- The least weight so far, once row d of coordinate j is taken.
+  abbrev pub withRow : ℕ → ℕ → List ℕ → ℕ → ℕ
+  withRow j d rs W = min W (suc (length rs) + size (reduced rs (G j d)))
 
-    pub covered-more : (r : ℕ) (rs : List ℕ) (W : ℕ) → Covered rs W → Covered (r ∷ rs) (min W (suc (length rs) + size (reduced rs r)))
-    unfolding Free
-    covered-more r rs W known c l =
-        (omega (arith, lt-of-not-le λ (b : suc (reduced rs r) ≤ 2 ^ c). omega (arith, size-le (reduced rs r) c .0 b)), known c (omega arith))
+  -- row d of coordinate j is taken, and then the coordinate is left
+  pub best-turn : (j d : ℕ) (rs : List ℕ) (W W₁ w : ℕ) → Best (suc j) (suc d) (G (suc j) d ∷ rs) (withRow (suc j) d rs W) W₁ → Best j 0 rs W₁ w
+      → Best (suc j) d rs W w
+  unfolding Free
+  best-turn j d rs W W₁ w taken left = record {
+    less = omega (arith, taken .less, left .less);
+    lighter = lighter taken left;
+    from = λ Q q hit.
+        left .from Q
+        (taken .from Q (min-either Q W _ q (hit _ (take (leave (reach-same j))) (size v) (λ free. omega (arith, size-le v (size v) .1 (omega arith), free .0))))
+        (λ all x. hit all (take x))) (λ all x. hit all (leave x));
+  }
+    where
+      v : ℕ
+      v = reduced rs (G (suc j) d)
 
-    pub record Best (j d : ℕ) (rs : List ℕ) (W w : ℕ) : Type 1 where
-      pub less : w ≤ W
-      pub lighter : Lighter j d rs w
-      pub from : (Q : ℕ → Type 0) → Q W → ((all : List ℕ) → Reach j d rs all → (c : ℕ) → (Free c all → ⊥) → Q (length all + c)) → Q w
+      lighter : Best (suc j) (suc d) (G (suc j) d ∷ rs) (withRow (suc j) d rs W) W₁ → Best j 0 rs W₁ w → Lighter (suc j) d rs w
+      lighter taken left all (leave x) = left .lighter all x
+      lighter taken left all (take x) = λ c l. taken .lighter all x c (omega (arith, left .less))
 
-    best-stop : (j d : ℕ) (rs : List ℕ) (W : ℕ) → W ≤ length rs + f → Covered rs W → Floor j d rs W → Best j d rs W W
-    best-stop j d rs W full known floor = record { less = omega arith; lighter = λ all x c l. go all x c l (reach-longer x); from = λ Q q hit. q }
-      where
-        go : (all : List ℕ) → Reach j d rs all → (c : ℕ) → length all + c < W → (all ≡ rs) ⊎ (length rs < length all) → Free c all
-        go all x c l (inl e) = rw e (known c (omega (arith, ap length e)))
-        go all x c l (inr b) = floor all x c (omega arith) l
+  -- The rows themselves are free over few powers.
+  abbrev pub Known : List ℕ → ℕ → Type 0
+  Known rs W = (c : ℕ) → length rs + c < W → Free c rs
 
-    -- the least weight so far, once row d of coordinate j is taken
-    abbrev withRow : ℕ → ℕ → List ℕ → ℕ → ℕ
-    withRow j d rs W = min W (suc (length rs) + size (reduced rs (G j d)))
+  pub known-more : (j d : ℕ) (rs : List ℕ) (W : ℕ) → Known rs W → Known (G j d ∷ rs) (withRow j d rs W)
+  unfolding Free
+  known-more j d rs W known c l =
+      let v = reduced rs (G j d) in
+      (omega (arith, lt-of-not-le λ (b : suc v ≤ 2 ^ c). omega (arith, size-le v c .0 b)), known c (omega arith))
 
-    -- row d of coordinate j is taken, and then the coordinate is left
-    best-turn : (j d : ℕ) (rs : List ℕ) (W W₁ w : ℕ) → Best (suc j) (suc d) (G (suc j) d ∷ rs) (withRow (suc j) d rs W) W₁ → Best j 0 rs W₁ w
-        → Best (suc j) d rs W w
-    unfolding Free
-    best-turn j d rs W W₁ w taken left = record {
-      less = omega (arith, taken .less, left .less);
-      lighter = lighter taken left;
-      from = λ Q q hit.
-          left .from Q (taken .from Q (min-either Q W _ q (hit _ (take (leave (reach-same j))) (size v) (λ free. omega (arith, size-le v (size v) .1 (omega arith), free .0))))
-          (λ all x. hit all (take x))) (λ all x. hit all (leave x));
+  -- f is right: lighter rows over fewer than f - 1 powers are free.
+  abbrev pub Floor : ℕ → ℕ → ℕ → List ℕ → ℕ → Type 0
+  Floor f j d rs W = (all : List ℕ) → Reach j d rs all → (c : ℕ) → suc c < f → length all + c < W → Free c all
+
+  best-stop : (f j d : ℕ) (rs : List ℕ) (W : ℕ) → W ≤ length rs + f → Known rs W → Floor f j d rs W → Best j d rs W W
+  best-stop f j d rs W full known floor = record { less = omega arith; lighter = λ all x c l. go all x c l (reach-longer x); from = λ Q q hit. q }
+    where
+      go : (all : List ℕ) → Reach j d rs all → (c : ℕ) → length all + c < W → (all ≡ rs) ⊎ (length rs < length all) → Free c all
+      go all x c l (inl e) = rw e (known c (omega (arith, ap length e)))
+      go all x c l (inr b) = floor all x c (omega arith) l
+
+  module _ (start next : ℕ → ℕ) (behind : (j d : ℕ) → next (G j d) ≡ G j (suc d)) (f m : ℕ) where
+    abbrev found : ℕ → ℕ → ℕ → List ℕ → ℕ → ℕ
+    found n j d rs W = search start next f n j (G j d) (length rs) (basis rs) W
+
+    pub search-best : (n j d : ℕ) (rs : List ℕ) (W : ℕ) → ((i : ℕ) → i < j → start i ≡ G i 0) → W ≤ suc m → j + suc m ≤ n + length rs → Known rs W
+        → Floor f j d rs W → Best j d rs W (search start next f n j (G j d) (length rs) (basis rs) W)
+    unfolding search basis
+    search-best zero j d rs W starts most turns known floor = best-stop f j d rs W (omega arith) known floor
+    search-best (suc n) zero d rs W starts most turns known floor = record {
+      less = omega arith;
+      lighter = λ all x c l. let e = reach-end x in rw e (known c (omega (arith, ap length e)));
+      from = λ Q q hit. q;
     }
+    search-best (suc n) (suc j) d rs W starts most turns known floor =
+        let r = G (suc j) d in
+        let W₁ = found n (suc j) (suc d) (r ∷ rs) (withRow (suc j) d rs W) in
+        let taken = search-best n (suc j) (suc d) (r ∷ rs) (withRow (suc j) d rs W) starts (omega arith) (omega arith) (known-more (suc j) d rs W known)
+        (λ all x c b l. floor all (take x) c b (omega arith)) in
+        let less : W₁ ≤ W = omega (arith, taken .less) in
+        let left = search-best n j 0 rs W₁ (λ i b. starts i (omega arith)) (omega arith) (omega arith) (λ c l. known c (omega arith))
+        (λ all x c b l. floor all (leave x) c b (omega arith)) in
+        go (decLt (length rs + f) W) (best-turn j d rs W W₁ (found n j 0 rs W₁) taken left)
       where
-        v : ℕ
-        v = reduced rs (G (suc j) d)
-
-        lighter : Best (suc j) (suc d) (G (suc j) d ∷ rs) (withRow (suc j) d rs W) W₁ → Best j 0 rs W₁ w → Lighter (suc j) d rs w
-        lighter taken left all (leave x) = left .lighter all x
-        lighter taken left all (take x) = λ c l. taken .lighter all x c (omega (arith, left .less))
-
-    module _ (start next : ℕ → ℕ) (behind : (j d : ℕ) → next (G j d) ≡ G j (suc d)) (m : ℕ) where
-      abbrev found : ℕ → ℕ → ℕ → List ℕ → ℕ → ℕ
-      found n j d rs W = search start next f n j (G j d) (length rs) (basis rs) W
-
-      pub search-best : (n j d : ℕ) (rs : List ℕ) (W : ℕ) → ((i : ℕ) → i < j → start i ≡ G i 0) → W ≤ suc m → j + suc m ≤ n + length rs
-          → Covered rs W → Floor j d rs W → Best j d rs W (search start next f n j (G j d) (length rs) (basis rs) W)
-      unfolding search basis
-      search-best zero j d rs W starts most fuel known floor = best-stop j d rs W (omega arith) known floor
-      search-best (suc n) zero d rs W starts most fuel known floor = record {
-        less = omega arith;
-        lighter = λ all x c l. let e = reach-end x in rw e (known c (omega (arith, ap length e)));
-        from = λ Q q hit. q;
-      }
-      search-best (suc n) (suc j) d rs W starts most fuel known floor =
-          let r = G (suc j) d in
-          let W₁ = found n (suc j) (suc d) (r ∷ rs) (withRow (suc j) d rs W) in
-          let taken = search-best n (suc j) (suc d) (r ∷ rs) (withRow (suc j) d rs W) starts (omega arith) (omega arith) (covered-more r rs W known)
-          (λ all x c b l. floor all (take x) c b (omega arith)) in
-          let less : W₁ ≤ W = omega (arith, taken .less) in
-          let left = search-best n j 0 rs W₁ (λ i b. starts i (omega arith)) (omega arith) (omega arith) (λ c l. known c (omega arith))
-          (λ all x c b l. floor all (leave x) c b (omega arith)) in
-          go (decLt (length rs + f) W) (best-turn j d rs W W₁ (found n j 0 rs W₁) taken left)
-        where
-          go : Dec (length rs + f < W) → Best (suc j) d rs W (found n j 0 rs (found n (suc j) (suc d) (G (suc j) d ∷ rs) (withRow (suc j) d rs W)))
-              → Best (suc j) d rs W (found (suc n) (suc j) d rs W)
-          go (no l) turn = rw (le-ltb (length rs + f) W (omega arith)) (best-stop (suc j) d rs W (omega arith) known floor)
-          go (yes l) turn = rw (lt-ltb (length rs + f) W l, behind (suc j) d, starts j (omega arith)) turn
+        go : Dec (length rs + f < W) → Best (suc j) d rs W (found n j 0 rs (found n (suc j) (suc d) (G (suc j) d ∷ rs) (withRow (suc j) d rs W)))
+            → Best (suc j) d rs W (found (suc n) (suc j) d rs W)
+        go (no l) turn = rw (le-ltb (length rs + f) W (omega arith)) (best-stop f (suc j) d rs W (omega arith) known floor)
+        go (yes l) turn = rw (lt-ltb (length rs + f) W l, behind (suc j) d, starts j (omega arith)) turn

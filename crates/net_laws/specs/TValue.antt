@@ -2,22 +2,23 @@
 -- stay so with more powers of x. So each level of the search takes m + 1 - t(s) to m + 1 - t(s + 1), with the bound 1 for every pair, and
 -- with 2 where q has an inverse modulo p; and t(1) = 0.
 -- Assumes nothing.
-use mathlib.Core.Path.{_≡_, sym, ap, _∙_, subst}
+use mathlib.Core.Path.{_≡_, sym, ap, subst}
 use mathlib.Core.Logic.{_↔_}
 use mathlib.Core.List.{List, [], _∷_}
-use Prim.Native.Nat.{ℕ, suc, _+_, _-_, _*_, _^_, _≤_, _<_}
-use native.Mathlib.Nat.{pow-succ', lt-of-not-le}
+use Prim.Native.Nat.{ℕ, suc, _-_, _*_, _≤_, _<_}
 use native.Mathlib.Omega.{arith}
 use lib.ListN.{length}
 use lib.Pow.{pow-mono}
-use Rattle.definitions.specs.Polynomial.{degree, prod, power, rem}
+use Rattle.definitions.specs.Polynomial.{degree, prod, rem}
 use Rattle.definitions.specs.Net.{tValue}
 use Rattle.polynomial_laws.specs.Degree.{HasDegree, degree-unique, positive}
 use Rattle.net_laws.specs.Cell.{Free}
 use Rattle.net_laws.specs.Net.{Net}
 use Rattle.net_laws.specs.Smallest.{tValue-smallest}
-use Rattle.net_laws.specs.Share.{digitRow, digitRow-suc, rowsOf, length-rowsOf, net-free}
-use Rattle.net_laws.specs.Weight.{level, AllFree, Least, Sound, sound-one, least-zero, least-unique, level-least, share-reach, reach-share}
+use Rattle.net_laws.specs.Point.{digitRow, digitRow-suc}
+use Rattle.net_laws.specs.Share.{rowsOf, length-rowsOf, net-free}
+use Rattle.net_laws.specs.Search.{share-reach, reach-share}
+use Rattle.net_laws.specs.Weight.{level, AllFree, Least, Sound, sound-one, least-zero, least-unique, level-least}
 use Rattle.net_laws.specs.Inverse.{sound-two}
 
 free-fewer : (c d : ℕ) (rs : List ℕ) → c ≤ d → Free d rs → Free c rs

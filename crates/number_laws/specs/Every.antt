@@ -1,7 +1,7 @@
 -- `every n test` says that each number below n passes: read out, and put together.
 -- Assumes nothing.
-use mathlib.Core.Path.{_≡_, refl, ap₂}
-use mathlib.Core.Bool.{Bool, true, _&&_, and-eq-true-iff}
+use mathlib.Core.Path.{_≡_, refl}
+use mathlib.Core.Bool.{Bool, true, and-eq-true-iff}
 use Prim.Native.Nat.{ℕ, zero, suc, _<_}
 use native.Mathlib.Omega.{arith}
 use native.Mathlib.Decide.{ℕ-discrete}
@@ -11,20 +11,15 @@ pub every-out : (n : ℕ) (test : ℕ → Bool) → every n test ≡ true → (i
 unfolding every
 every-out zero test t i l = absurd (omega arith)
 every-out (suc n) test t i l =
-    let both = and-eq-true-iff (test n) (every n test) .0 t in
-    at (both .0) (every-out n test (both .1) i) (ℕ-discrete i n)
+    let (here, rest) = and-eq-true-iff (test n) (every n test) .0 t in
+    at here (every-out n test rest i) (ℕ-discrete i n)
   where
     at : test n ≡ true → (i < n → test i ≡ true) → Dec (i ≡ n) → test i ≡ true
-    at p ih (yes e) = rw e p
-    at p ih (no e) = ih (omega arith)
+    at here below (yes e) = rw e here
+    at here below (no e) = below (omega arith)
 
 pub every-in : (n : ℕ) (test : ℕ → Bool) → ((i : ℕ) → i < n → test i ≡ true) → every n test ≡ true
 unfolding every
 every-in zero test h = refl
 every-in (suc n) test h =
     and-eq-true-iff (test n) (every n test) .1 (h n (omega arith), every-in n test (λ i l. h i (omega arith)))
-
-pub every-ext : (n : ℕ) (test other : ℕ → Bool) → ((i : ℕ) → i < n → test i ≡ other i) → every n test ≡ every n other
-unfolding every
-every-ext zero test other h = refl
-every-ext (suc n) test other h = ap₂ _&&_ (h n (omega arith)) (every-ext n test other (λ i l. h i (omega arith)))

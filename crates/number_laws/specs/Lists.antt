@@ -4,15 +4,15 @@
 use mathlib.Core.Path.{_≡_, refl, sym, ap, _∙_, subst}
 use mathlib.Core.Logic.{_⊎_, inl, inr, ∥∥₁-elim}
 use mathlib.Core.HLevel.{⊥-prop}
-use mathlib.Core.Bool.{Bool, true, false, false≢true, _&&_, _||_, or-true, and-eq-true-iff}
+use mathlib.Core.Bool.{Bool, true, false, false≢true, _||_, and-eq-true-iff}
 use mathlib.Core.List.{List, [], _∷_, _++_, map, List·Memᴰ, List·Memᴰ·head, List·Memᴰ·tail, List·Memᴰ·cases-cons, List·Memᴰ·not-nil, List·Memᴰ·append-cases, Memᴰ·append-left, Memᴰ·append-right, Memᴰ·cast, Memᴰ·of-map, List·Nodup, Pairwise·nil, nodup-cons, nodup-append}
 use Prim.Native.Nat.{ℕ, zero, suc, _+_, _≤_, _<_}
 use native.Mathlib.Omega.{arith}
 use native.Mathlib.Decide.{ℕ-discrete}
 use lib.Dec.{eqb}
 use lib.ListN.{length}
-use borrow.Author.Tests.{eqb-true, eq-eqb}
-use Rattle.definitions.specs.Number.{numbers, putIf, keep, join}
+use borrow.Author.Tests.{eqb-true}
+use Rattle.definitions.specs.Number.{numbers, putIf, keep, all, join}
 
 -- Lists without repetition, by first element and tail.
 module _ {X : Type 0} where
@@ -42,25 +42,11 @@ contains-out (y ∷ l) x t = go (eqb x y) refl t (contains-out l x)
     go true e t ih = List·Memᴰ·head (eqb-true x y e)
     go false e t ih = List·Memᴰ·tail (ih t)
 
-pub contains-in : {l : List ℕ} {x : ℕ} → List·Memᴰ x l → contains l x ≡ true
-unfolding contains
-contains-in {l = y ∷ l} {x} (List·Memᴰ·head e) = rw (eq-eqb x y e)
-contains-in {l = y ∷ l} {x} (List·Memᴰ·tail m) = rw (contains-in m) (or-true (eqb x y))
-
--- Every element of k is an element of l, computed.
-unfoldable pub allIn : List ℕ → List ℕ → Bool
-unfolding contains
-allIn [] l = true
-allIn (x ∷ k) l = contains l x && allIn k l
-
-pub allIn-out : (k l : List ℕ) → allIn k l ≡ true → (x : ℕ) → List·Memᴰ x k → List·Memᴰ x l
-unfolding allIn
-allIn-out [] l t x m = absurd (List·Memᴰ·not-nil m)
-allIn-out (y ∷ k) l t x m = go (and-eq-true-iff (contains l y) (allIn k l) .0 t) (List·Memᴰ·cases-cons m) (λ u. allIn-out k l u x)
-  where
-    go : (contains l y ≡ true) × (allIn k l ≡ true) → (x ≡ y) ⊎ List·Memᴰ x k → (allIn k l ≡ true → List·Memᴰ x k → List·Memᴰ x l) → List·Memᴰ x l
-    go h (inl e) ih = Memᴰ·cast e (contains-out l y (h .0))
-    go h (inr u) ih = ih (h .1) u
+-- What a test that all elements pass says of each.
+pub all-out : {X : Type 0} (test : X → Bool) {l : List X} {x : X} → all test l ≡ true → List·Memᴰ x l → test x ≡ true
+unfolding all
+all-out test {l = y ∷ l} t (List·Memᴰ·head e) = ap test e ∙ and-eq-true-iff (test y) (all test l) .0 t .0
+all-out test {l = y ∷ l} t (List·Memᴰ·tail m) = all-out test (and-eq-true-iff (test y) (all test l) .0 t .1) m
 
 -- The n numbers from a on.
 pub numbers-in : (a n i : ℕ) → a ≤ i → i < a + n → List·Memᴰ i (numbers a n)
@@ -140,12 +126,8 @@ map-once f (x ∷ l) apart n =
 -- Lists joined, one for each element of another list.
 module _ {X Y : Type 0} (f : X → List Y) where
   pub join-map-in : (l : List X) {x : X} {y : Y} → List·Memᴰ x l → List·Memᴰ y (f x) → List·Memᴰ y (join (map f l))
-  join-map-in [] m k = absurd (List·Memᴰ·not-nil m)
-  join-map-in (z ∷ l) {x} {y} m k = go (List·Memᴰ·cases-cons m) (λ h. join-map-in l h k)
-    where
-      go : (x ≡ z) ⊎ List·Memᴰ x l → (List·Memᴰ x l → List·Memᴰ y (join (map f l))) → List·Memᴰ y (f z ++ join (map f l))
-      go (inl e) ih = Memᴰ·append-left (join (map f l)) (subst (λ (t : X). List·Memᴰ y (f t)) e k)
-      go (inr h) ih = Memᴰ·append-right (f z) (ih h)
+  join-map-in (z ∷ l) (List·Memᴰ·head e) k = Memᴰ·append-left (join (map f l)) (rw e at k)
+  join-map-in (z ∷ l) (List·Memᴰ·tail m) k = Memᴰ·append-right (f z) (join-map-in l m k)
 
   pub join-map-out : (l : List X) {y : Y} → List·Memᴰ y (join (map f l)) → (x : X) × List·Memᴰ x l × List·Memᴰ y (f x)
   join-map-out [] m = absurd (List·Memᴰ·not-nil m)

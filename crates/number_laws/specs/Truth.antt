@@ -1,8 +1,13 @@
--- Tests: two that hold together are equal, and one that cannot hold is false.
+-- What cannot fail holds: a test that cannot hold is false, two that hold together are equal, and numbers that are not the one way round are the other.
 -- Assumes nothing.
-use mathlib.Core.Path.{_≡_, refl, sym}
+use mathlib.Core.Path.{_≡_, refl, sym, _∙_}
 use mathlib.Core.Logic.{_↔_}
 use mathlib.Core.Bool.{Bool, true, false, false≢true}
+use Prim.Native.Nat.{ℕ, _≤_, _<_}
+use native.Mathlib.Nat.{le-antisymm}
+use native.Mathlib.Omega.{arith}
+use lib.Dec.{eqb}
+use borrow.Author.Tests.{eqb-true, eq-eqb}
 
 pub truth-false : (b : Bool) → (b ≡ true → ⊥) → b ≡ false
 truth-false true h = absurd (h refl)
@@ -11,3 +16,18 @@ truth-false false h = refl
 pub truth-equal : (a b : Bool) → (a ≡ true) ↔ (b ≡ true) → a ≡ b
 truth-equal true b h = sym (h .0 refl)
 truth-equal false b h = sym (truth-false b (λ t. false≢true (h .1 t)))
+
+pub eqb-is : (a b : ℕ) → (eqb a b ≡ true) ↔ (a ≡ b)
+eqb-is a b = (eqb-true a b, eq-eqb a b)
+
+pub not-both : {b : Bool} → b ≡ false → b ≡ true → ⊥
+not-both f t = false≢true (sym f ∙ t)
+
+pub le-unless : {a b : ℕ} → (b < a → ⊥) → a ≤ b
+le-unless {a} {b} h =
+    let n : ¬ (b < a) = h in
+    omega arith
+
+-- a map tells numbers apart where it tells the smaller from the larger
+pub apart-by-order : (n : ℕ) (f : ℕ → ℕ) → ((i j : ℕ) → i < j → j < n → f i ≡ f j → ⊥) → (i j : ℕ) → i < n → j < n → f i ≡ f j → i ≡ j
+apart-by-order n f apart i j h l e = le-antisymm (le-unless (λ k. apart j i k h (sym e))) (le-unless (λ k. apart i j k l e))

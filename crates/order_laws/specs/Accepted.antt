@@ -6,7 +6,6 @@ use mathlib.Core.Bool.{true, _&&_, and-eq-true-iff}
 use Prim.Native.Nat.{ℕ, _-_, _^_, _≤_, _<_}
 use native.Mathlib.Nat.{dvd-refl}
 use native.Mathlib.Omega.{arith}
-use native.Mathlib.Decide.{decLe}
 use lib.Pow.{pow-mono}
 use Rattle.definitions.specs.Number.{gcd}
 use Rattle.definitions.specs.Polynomial.{rem}
@@ -43,22 +42,16 @@ pub record IsStep (m p q e : ℕ) : Type 0 where
   pub gives : rem (2 ^ e) p ≡ q
 
 pub coprime-step : (m p q : ℕ) → leastDegree ≤ m → coprimeStep m p q ≡ true → IsStep m p q (step m p q)
-coprime-step m p q h c = record { positive = step-from m p q; below = below; gives = step-found m p q below }
+coprime-step m p q low c = record { positive = step-from m p q; below = below; gives = step-found m p q below }
   where
-    below : step m p q < period m
-    below = go (decLe (period m) (step m p q))
-      where
-        not-period : step m p q ≢ period m
-        not-period e =
-            omega (
-              arith,
-              pow-mono h,
-              coprime-only (period m) (period m) (period m) (ap (λ s. gcd s (period m)) (sym e) ∙ coprimeStep-is m p q .0 c) (dvd-refl (period m)) (dvd-refl (period m)),
-            )
+    -- the period is not coprime to itself
+    not-period : step m p q ≢ period m
+    not-period e =
+        let coprime : gcd (period m) (period m) ≡ 1 = ap (λ s. gcd s (period m)) (sym e) ∙ coprimeStep-is m p q .0 c in
+        omega (arith, pow-mono low, coprime-only (period m) (period m) (period m) coprime (dvd-refl (period m)) (dvd-refl (period m)))
 
-        go : Dec (period m ≤ step m p q) → step m p q < period m
-        go (yes u) = absurd (not-period (omega (arith, step-to m p q (omega arith))))
-        go (no u) = omega arith
+    below : step m p q < period m
+    below = omega (arith, not-period, step-to m p q (omega arith))
 
 -- The states of a pair are the full period.
 pub record FullPeriod (m p q : ℕ) : Type 0 where

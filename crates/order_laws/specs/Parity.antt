@@ -62,7 +62,7 @@ digits-sum off on = refl
 digits-sum on off = refl
 digits-sum on on = refl
 
-pub rem-parity : (a : ℕ) → rem a 3 ≡ parity a
+rem-parity : (a : ℕ) → rem a 3 ≡ parity a
 rem-parity =
     half-ind (rem-zero 3 ∙ unfold ones in refl)
     (λ a ih.

@@ -1,6 +1,6 @@
--- The exponents e with x^e ≡ 1 (mod p) hold remainders and multiples: x^(kb + a) ≡ x^a where x^b ≡ 1.
+-- The exponents e with x^e ≡ 1 (mod p) hold remainders and multiples: exponents may be reduced modulo one of them.
 -- Assumes nothing.
-use mathlib.Core.Path.{_≡_, sym, ap, _∙_}
+use mathlib.Core.Path.{_≡_, sym, _∙_}
 use Prim.Native.Nat.{ℕ, zero, suc, _+_, _*_, _/_, _%_, _^_, _≤_, _∣_}
 use native.Mathlib.Nat.{zero-add, zero-mul, mod-eq-zero-of-dvd, div-add-mod'}
 use native.Mathlib.Omega.{arith}
@@ -19,19 +19,18 @@ abbrev pub IsOrder : ℕ → ℕ → Type 0
 IsOrder p n = Smallest (Returns p) n
 
 module _ (p : ℕ) (big : 2 ≤ p) where
-  pub returns-add : (a b : ℕ) → Returns p b → rem (2 ^ (b + a)) p ≡ rem (2 ^ a) p
-  returns-add a b h = rw (rem-power-add p big, h, one-prod) (rem-rem p (omega arith) (2 ^ a))
+  module _ (a b : ℕ) (returns : Returns p b) where
+    rounds : (k : ℕ) → rem (2 ^ (k * b + a)) p ≡ rem (2 ^ a) p
+    rounds zero = rw (zero-mul, zero-add)
+    rounds (suc k) =
+        let e : suc k * b + a ≡ b + (k * b + a) = omega arith in
+        rw (e, rem-power-add p big, returns, one-prod, rem-rem p (omega arith)) (rounds k)
 
-  pub returns-mul : (k b a : ℕ) → Returns p b → rem (2 ^ (k * b + a)) p ≡ rem (2 ^ a) p
-  returns-mul zero b a h = rw (zero-mul, zero-add)
-  returns-mul (suc k) b a h = ap (λ e. rem (2 ^ e) p) (omega arith) ∙ returns-add (k * b + a) b h ∙ returns-mul k b a h
-
-  -- Exponents may be reduced modulo one that returns.
   pub returns-mod : (a b : ℕ) → Returns p b → rem (2 ^ (a % b)) p ≡ rem (2 ^ a) p
-  returns-mod a b h = sym (rw div-add-mod' at (returns-mul (a / b) b (a % b) h))
+  returns-mod a b h = sym (rounds (a % b) b h (a / b)) ∙ rw div-add-mod'
 
   pub returns-multiple : (a b : ℕ) → b ∣ a → Returns p b → Returns p a
-  returns-multiple a b d h = sym (returns-mod a b h) ∙ rw (mod-eq-zero-of-dvd b d) (rem-one p big)
+  returns-multiple a b part h = sym (returns-mod a b h) ∙ rw (mod-eq-zero-of-dvd b part) (rem-one p big)
 
   pub returns-closed : Closed (Returns p)
   returns-closed = record { remainder = λ a b h k. returns-mod a b k ∙ h; multiple = returns-multiple }

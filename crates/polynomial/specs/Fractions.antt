@@ -13,8 +13,8 @@ use Rattle.polynomial_laws.specs.Sum.{⊕-def, ⊕-sums}
 use Rattle.polynomial_laws.specs.Degree.{HasDegree, positive, degree-unique, double-degree, top-cancels}
 use Rattle.polynomial_laws.specs.Product.{one-prod, two-prod, prod-half}
 use Rattle.polynomial_laws.specs.Division.{rem-lt, division-unique}
-use Rattle.fraction_laws.specs.Expansion.{child-def}
 use Rattle.fraction_laws.specs.Quotients.{linearQuotients-zero, linearQuotients-next, linearQuotients-stop}
+use Rattle.fraction_laws.specs.Level.{child-def}
 use Rattle.polynomial.specs.Digits.{below-mask, above-mask}
 use Rattle.polynomial.specs.Modulus.{Modulus, modulus-degree, top-fits}
 

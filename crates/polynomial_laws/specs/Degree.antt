@@ -14,7 +14,7 @@ pub record HasDegree (a m : ℕ) : Type 0 where
   pub most : a < 2 * 2 ^ m
 
 -- ---- between powers of two
-pub exponent-le : (i j a : ℕ) → 2 ^ i ≤ a → a < 2 ^ suc j → i ≤ j
+exponent-le : (i j a : ℕ) → 2 ^ i ≤ a → a < 2 ^ suc j → i ≤ j
 exponent-le i j a above below =
     let l : i < suc j = lt-of-not-le (λ (k : suc j ≤ i). omega (arith, pow-mono k)) in
     omega arith
@@ -31,7 +31,7 @@ double-degree h = record { least = omega arith; most = omega arith }
 pub half-degree : {a m : ℕ} → HasDegree a (suc m) → HasDegree (a / 2) m
 half-degree h = record { least = omega arith; most = omega arith }
 
-pub degree-of-half : {a m : ℕ} → HasDegree (a / 2) m → HasDegree a (suc m)
+degree-of-half : {a m : ℕ} → HasDegree (a / 2) m → HasDegree a (suc m)
 degree-of-half h = record { least = omega arith; most = omega arith }
 
 -- ---- the degree as it is computed, by halving
@@ -53,9 +53,6 @@ degree-unique a m h =
 pub degree-zero : degree 0 ≡ 0
 unfolding degree degreeWithin
 degree-zero = refl
-
-pub degree-one : degree 1 ≡ 0
-degree-one = degree-unique 1 0 (power-degree 0)
 
 pub degree-least : (a m : ℕ) → 2 ^ m ≤ a → m ≤ degree a
 degree-least a m h = exponent-le m (degree a) a h (omega (arith, degree-is a (omega (arith, pow-pos m)) .most))

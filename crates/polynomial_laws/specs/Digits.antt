@@ -32,6 +32,9 @@ same-digits a b half low = omega arith
 pub half-double : (a : ℕ) → 2 * a / 2 ≡ a
 half-double a = omega arith
 
+pub double-even : (a : ℕ) → 2 * a % 2 ≡ 0
+double-even a = omega arith
+
 -- ---- functions by digits
 module _ {X : Type 0} (z : X) (g : ℕ → X → X) where
   none : (n : ℕ) → byDigitsWithin z g n 0 ≡ z

@@ -7,7 +7,7 @@ use native.Mathlib.Nat.{zero-mul, one-mul, add-zero, zero-div, div-lt-iff-lt-mul
 use native.Mathlib.Omega.{arith}
 use lib.Pow.{pow-pos, pow-mono}
 use Rattle.definitions.specs.Polynomial.{_⊕_, degree, prod, Division, clear, bringDown, divide, quot, rem}
-use Rattle.polynomial_laws.specs.Digits.{Digit, off, on, digit, half-ind, byDigits-zero, byDigits-half}
+use Rattle.polynomial_laws.specs.Digits.{Digit, off, on, digit, half-ind, half-double, double-even, byDigits-zero, byDigits-half}
 use Rattle.polynomial_laws.specs.Sum.{⊕-lt, zero-⊕, ⊕-zero, ⊕-assoc, ⊕-cancel-both, ⊕-sums, ⊕-swap, ⊕-injective, ⊕-across, ⊕-equal, ⊕-double, digit-⊕, halves}
 use Rattle.polynomial_laws.specs.Degree.{HasDegree, degree-is, degree-unique, lt-of-shr, one-leads, add-degree, top-cancels}
 use Rattle.polynomial_laws.specs.Product.{zero-prod, one-prod, two-prod, double-prod, digit-prod, ⊕-prod, prod-zero, prod-comm, prod-assoc, product-degree, multiple-small}
@@ -37,10 +37,7 @@ unfolding rem bringDown clear
 rem-half a b = ap (λ (d : Division). d .remainder) (divide-half a b)
 
 pub quot-double : (b a : ℕ) → quot (2 * a) b ≡ 2 * quot a b + 2 * rem a b / 2 ^ degree b
-quot-double b a =
-    let half : 2 * a / 2 ≡ a = omega arith in
-    let low : 2 * a % 2 ≡ 0 = omega arith in
-    quot-half (2 * a) b ∙ rw (half, low, add-zero)
+quot-double b a = quot-half (2 * a) b ∙ rw (half-double, double-even, add-zero)
 
 module _ (b : ℕ) (pos : 0 < b) where
   hb : HasDegree b (degree b)

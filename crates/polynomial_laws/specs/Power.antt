@@ -30,7 +30,7 @@ power-one q = rw (power-suc, power-zero, prod-one)
 
 pub power-add : (q i j : ℕ) → power q (i + j) ≡ prod (power q i) (power q j)
 power-add q zero j = rw (zero-add, power-zero, one-prod)
-power-add q (suc i) j = rw (suc-add, power-suc, power-suc, power-add q i j, prod-assoc)
+power-add q (suc i) j = rw (suc-add, power-suc q (i + j), power-suc q i, power-add q i j, prod-assoc)
 
 pub power-of-x : (e : ℕ) → power 2 e ≡ 2 ^ e
 power-of-x zero = power-zero 2

@@ -7,7 +7,7 @@ use native.Mathlib.Nat.{zero-mul, one-mul, zero-add, suc-add}
 use native.Mathlib.Omega.{arith}
 use lib.Pow.{pow-mono}
 use Rattle.definitions.specs.Polynomial.{_⊕_, degree, prod}
-use Rattle.polynomial_laws.specs.Digits.{Digit, off, on, lowest, half-ind, digit-mul-le, byDigits-zero, byDigits-half}
+use Rattle.polynomial_laws.specs.Digits.{Digit, off, on, lowest, half-ind, half-double, double-even, digit-mul-le, byDigits-zero, byDigits-half}
 use Rattle.polynomial_laws.specs.Sum.{half-⊕, zero-⊕, ⊕-zero, ⊕-swap, ⊕-double, halves, lowest-mul}
 use Rattle.polynomial_laws.specs.Degree.{HasDegree, degree-is, double-degree, half-degree, add-degree}
 
@@ -22,10 +22,7 @@ pub one-prod : (b : ℕ) → prod 1 b ≡ b
 one-prod b = prod-half 1 b ∙ rw (zero-prod, zero-⊕, one-mul)
 
 pub double-prod : (a b : ℕ) → prod (2 * a) b ≡ 2 * prod a b
-double-prod a b =
-    let half : 2 * a / 2 ≡ a = omega arith in
-    let low : 2 * a % 2 ≡ 0 = omega arith in
-    prod-half (2 * a) b ∙ rw (half, low, zero-mul, ⊕-zero)
+double-prod a b = prod-half (2 * a) b ∙ rw (half-double, double-even, zero-mul, ⊕-zero)
 
 pub two-prod : (b : ℕ) → prod 2 b ≡ 2 * b
 two-prod b = double-prod 1 b ∙ rw one-prod
@@ -49,7 +46,7 @@ module _ (f : ℕ → ℕ) (sum : (a c : ℕ) → f (a ⊕ c) ≡ f a ⊕ f c) (
   at-digit off = at-zero ∙ sym (zero-mul (f 1))
   at-digit on = sym (one-mul (f 1))
 
-  pub linear-prod : (a : ℕ) → f a ≡ prod a (f 1)
+  linear-prod : (a : ℕ) → f a ≡ prod a (f 1)
   linear-prod = half-ind (at-zero ∙ sym (zero-prod (f 1)))
       (λ a ih. ap f (sym (halves a)) ∙ rw (sum, double, ih, at-digit (lowest a)) (sym (prod-half a (f 1))))
 

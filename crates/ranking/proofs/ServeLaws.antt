@@ -25,7 +25,7 @@ use Rattle.definitions.specs.declared.Position.the-variants.{Start, After}
 use Rattle.definitions.specs.declared.PageRequest.{PageRequest}
 use Rattle.definitions.specs.declared.PageAnswer.{PageAnswer}
 use Rattle.definitions.specs.declared.PageAnswer.the-variants.{Page, NoPage}
-use Rattle.fraction_laws.specs.Walk.{root-proper}
+use Rattle.fraction_laws.specs.Level.{root-proper}
 use Rattle.fraction_laws.specs.Tree.{tree-def}
 use Rattle.page_laws.specs.Search.{Search, offerAll, found, search-page, start-good}
 use Rattle.ranking_laws.specs.Met.{met, met-wide, tree-ranked, tValues-length}

@@ -13,8 +13,7 @@ use Rattle.definitions.specs.Ranking.{rowKey}
 use Rattle.polynomial_laws.specs.Degree.{HasDegree}
 use Rattle.fraction_laws.specs.WellFormed.{WellFormed, Proper, wellFormed-is}
 use Rattle.fraction_laws.specs.Quotients.{two-linear, three-linear}
-use Rattle.fraction_laws.specs.Expansion.{child-def}
-use Rattle.fraction_laws.specs.Walk.{child-proper}
+use Rattle.fraction_laws.specs.Level.{child-def, child-proper}
 use Rattle.fraction_laws.specs.Tree.{pairsBelow-zero, pairsBelow-suc, pairsBelow-count, tree-sound}
 use Rattle.page_laws.specs.Rows.{Wide}
 use Rattle.page_laws.specs.Search.{Search, offer-append, offer-good}

@@ -1,52 +1,33 @@
 -- `listing::put_decimal` puts the digits of n at the place where they fit. Assumes nothing.
-use mathlib.Core.Path.{sym, _∙_}
 use denote.Ref.{now}
 use borrow.Author.Needs.{needs}
 use Rattle.definitions.specs.Listing.{decimal}
-use Rattle.listing.specs.Place.{put, not-put, fits-true, fits-false}
+use Rattle.listing.specs.Place.{fits-room, fits-put, fits-not}
 use Rattle.listing.proofs.put_decimal.Statement.{statement}
 use Rattle.listing.proofs.put_decimal.Tie as tie
-
-digits-requires : tie.Need-digits-requires
-digits-requires c κs = search needs
-
-fits-requires : tie.Need-fits-requires
-fits-requires c κs = search needs
 
 write-decimal-requires : tie.Need-write-decimal-requires
 write-decimal-requires c κs =
     let tested = c .before .before in
     let a = tested .before .before .before .before .args in
-    fits-true (a .at) (tested .before .digits .result) (decimal (a .n)) (now (a .out)) (tested .before .digits .ensures) (sym (tested .fits2 .ensures) ∙ c .before .if1 .taken)
-
-same-length : tie.Need-same-length
-same-length c = search needs
+    fits-room (a .at) (decimal (a .n)) (now (a .out)) (tested .before .digits .ensures) (tested .fits2 .ensures) (c .before .if1 .taken)
 
 returns : tie.Need-returns
 returns c =
     let written = c .before .before in
-    let tested = written .before .before .before in
+    let fitting = written .before .before in
+    let tested = fitting .before in
     let a = tested .before .before .before .before .args in
-    let room = fits-true (a .at) (tested .before .digits .result) (decimal (a .n)) (now (a .out)) (tested .before .digits .ensures) (sym (tested .fits2 .ensures) ∙ written .before .before .if1 .taken) in
-    put (a .at) (decimal (a .n)) (now (a .out)) room (written .write-decimal .ensures .0) (written .write-decimal .ensures .1)
-
-same-length-2 : tie.Need-same-length-2
-same-length-2 c = search needs
+    fits-put (a .at) (decimal (a .n)) (now (a .out)) (tested .before .digits .ensures) (tested .fits2 .ensures) (fitting .if1 .taken)
+    (written .write-decimal .ensures .0) (written .write-decimal .ensures .1)
 
 returns-2 : tie.Need-returns-2
 returns-2 c =
     let tested = c .before in
     let a = tested .before .before .before .before .args in
-    not-put (a .at) (decimal (a .n)) (now (a .out)) (fits-false (a .at) (tested .before .digits .result) (decimal (a .n)) (now (a .out)) (tested .before .digits .ensures) (sym (tested .fits2 .ensures) ∙ c .if1 .left))
+    fits-not (a .at) (decimal (a .n)) (now (a .out)) (tested .before .digits .ensures) (tested .fits2 .ensures) (c .if1 .left)
 
 pub put-decimal-spec : {M : Type 1} → statement M
 put-decimal-spec =
-    tie.close
-    (tie.spec
-    digits-requires
-    fits-requires
-    write-decimal-requires
-    same-length
-    returns
-    same-length-2
+    tie.close (tie.spec (search needs) (search needs) write-decimal-requires (search needs) returns (search needs)
     returns-2)

@@ -12,15 +12,7 @@ use Rattle.listing.proofs.put_row.Statement.{statement}
 use Rattle.listing.proofs.put_row.Tie as tie
 
 returns : tie.Need-returns
-returns c =
-    let a = c .before .before .before .args in
-    not-put (a .at) (rowText (now (a .row))) (now (a .out)) (omega arith)
-
-sub-row-fits : tie.Need-sub-row-fits
-sub-row-fits c = search needs
-
-row-fits-requires : tie.Need-row-fits-requires
-row-fits-requires c κs = search needs
+returns c = let a = c .before .before .before .args in not-put (a .at) (rowText (now (a .row))) (now (a .out)) (omega arith)
 
 write-row-requires : tie.Need-write-row-requires
 write-row-requires c κs =
@@ -28,9 +20,6 @@ write-row-requires c κs =
     let a = tested .before .before .before .before .args in
     let room : length (rowText (now (a .row))) ≤ length (now (a .out)) - a .at = leb-true _ _ (sym (tested .row-fits .ensures) ∙ c .before .if2 .taken) in
     omega (arith, tested .before .if1 .left)
-
-same-length : tie.Need-same-length
-same-length c = search needs
 
 returns-2 : tie.Need-returns-2
 returns-2 c =
@@ -48,4 +37,5 @@ returns-3 c =
     not-put (a .at) (rowText (now (a .row))) (now (a .out)) (omega arith)
 
 pub put-row-spec : {M : Type 1} → statement M
-put-row-spec = tie.close (tie.spec returns sub-row-fits row-fits-requires write-row-requires same-length returns-2 returns-3)
+put-row-spec =
+    tie.close (tie.spec returns (search needs) (search needs) write-row-requires (search needs) returns-2 returns-3)

@@ -16,23 +16,11 @@ Inv-loop s from byte i₀ i = (i ≤ length s) × (i + length (upTo byte (drop i
 abbrev μ-loop : tie.MeasureT-loop
 μ-loop s from byte i₀ i = length s - i
 
-loop-holds : tie.Need-loop-holds Inv-loop μ-loop
-loop-holds c = omega arith
-
-shared-slice-read-if1 : tie.Need-shared-slice-read-if1 Inv-loop μ-loop
-shared-slice-read-if1 c = search needs
-
 returns : tie.Need-returns Inv-loop μ-loop
 returns c =
     let turn = c .before .before in
     let a = turn .before .before .args in
     omega (arith, ap length (up-to-found (a .byte) (now (a .s)) (turn .before .loop .i) (turn .loop-test .taken) (c .if1 .taken)))
-
-add-i : tie.Need-add-i Inv-loop μ-loop
-add-i c = search needs
-
-loop-less : tie.Need-loop-less Inv-loop μ-loop
-loop-less c = omega arith
 
 loop-again : tie.Need-loop-again Inv-loop μ-loop
 loop-again c =
@@ -46,4 +34,6 @@ returns-2 c =
     omega (arith, ap length (up-to-end (a .byte) (now (a .s)) (c .before .loop .i) (c .loop-test .left)))
 
 pub find-spec : {M : Type 1} → statement M
-find-spec = tie.close (tie.spec Inv-loop μ-loop loop-holds shared-slice-read-if1 returns add-i loop-less loop-again returns-2)
+find-spec =
+    tie.close (tie.spec Inv-loop μ-loop (λ c. omega arith) (search needs) returns (search needs) (λ c. omega arith)
+    loop-again returns-2)

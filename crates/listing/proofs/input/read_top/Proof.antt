@@ -9,21 +9,12 @@ use Rattle.listing.specs.Words.{word-within, stage-none, stage-last, sta
 use Rattle.listing.proofs.input.read_top.Statement.{statement}
 use Rattle.listing.proofs.input.read_top.Tie as tie
 
-find-requires : tie.Need-find-requires
-find-requires c κs = search needs
-
 read-word-requires : tie.Need-read-word-requires
 read-word-requires c κs =
     let start = c .before .before in
     let a = start .args in
     let inside = word-within (a .degree ∷ []) (now (a .line)) (a .from) (start .pre) (c .find .ensures) in
     (inside .0, inside .1)
-
-enum-known-top : tie.Need-enum-known-top
-enum-known-top c = search needs
-
-enum-told : tie.Need-enum-told
-enum-told c = search needs
 
 returns : tie.Need-returns
 returns c =
@@ -64,14 +55,5 @@ returns-3 c =
 
 pub read-top-spec : {M : Type 1} → statement M
 read-top-spec =
-    tie.close
-    (tie.spec
-    find-requires
-    read-word-requires
-    enum-known-top
-    enum-told
-    returns
-    returns-2
-    add-read-size
-    read-size-requires
-    returns-3)
+    tie.close (tie.spec (search needs) read-word-requires (search needs) (search needs) returns returns-2 add-read-size
+    read-size-requires returns-3)

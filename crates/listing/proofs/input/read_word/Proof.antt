@@ -24,9 +24,6 @@ returns c =
     let l = length-slice (a .from) (a .to) (now (a .s)) (c .before .pre .1) in
     word-empty (slice (a .from) (a .to) (now (a .s))) (omega arith)
 
-sub-if2 : tie.Need-sub-if2 Inv-loop μ-loop
-sub-if2 c = search needs
-
 returns-2 : tie.Need-returns-2 Inv-loop μ-loop
 returns-2 c =
     let a = c .before .before .args in
@@ -40,9 +37,6 @@ loop-holds c =
     let l = length-slice (a .from) (a .to) (now (a .s)) (start .pre .1) in
     let none : a .from - a .from ≡ 0 = omega arith in
     (omega arith, start .pre .0, rw none (omega arith), word-digits (slice (a .from) (a .to) (now (a .s))) (omega (arith, c .before .if1 .left)) (omega arith))
-
-shared-slice-read-b : tie.Need-shared-slice-read-b Inv-loop μ-loop
-shared-slice-read-b c = search needs
 
 returns-3 : tie.Need-returns-3 Inv-loop μ-loop
 returns-3 c =
@@ -64,20 +58,11 @@ mul-value c =
     let here = turn .before .loop in
     omega (arith, eight-digits (here .value) (here .i - turn .before .before .before .before .args .from) (here .inv .2) (omega arith))
 
-cast-value : tie.Need-cast-value Inv-loop μ-loop
-cast-value c = search needs
-
 add-value : tie.Need-add-value Inv-loop μ-loop
 add-value c =
     let turn = c .before .before .before in
     let here = turn .before .loop in
     omega (arith, eight-digits (here .value) (here .i - turn .before .before .before .before .args .from) (here .inv .2) (omega arith))
-
-add-i : tie.Need-add-i Inv-loop μ-loop
-add-i c = omega arith
-
-loop-less : tie.Need-loop-less Inv-loop μ-loop
-loop-less c = omega arith
 
 loop-again : tie.Need-loop-again Inv-loop μ-loop
 loop-again c =
@@ -102,21 +87,5 @@ returns-5 c =
 
 pub read-word-spec : {M : Type 1} → statement M
 read-word-spec =
-    tie.close
-    (tie.spec
-    Inv-loop
-    μ-loop
-    returns
-    sub-if2
-    returns-2
-    loop-holds
-    shared-slice-read-b
-    returns-3
-    returns-4
-    mul-value
-    cast-value
-    add-value
-    add-i
-    loop-less
-    loop-again
-    returns-5)
+    tie.close (tie.spec Inv-loop μ-loop returns (search needs) returns-2 loop-holds (search needs) returns-3 returns-4
+    mul-value (search needs) add-value (λ c. omega arith) (λ c. omega arith) loop-again returns-5)

@@ -1,16 +1,32 @@
 -- `listing::line::put_line` puts a word, a number and a newline where they fit. Assumes nothing.
-use mathlib.Core.Path.{sym, _∙_}
+use mathlib.Core.Path.{_≡_}
+use Prim.Native.Nat.{_+_, _≤_, _<_}
 use native.Mathlib.Omega.{arith}
 use denote.Ref.{now}
+use lib.ListN.{length, set}
 use borrow.Author.Needs.{needs}
+use Rattle.definitions.specs.Listing.{newline}
 use Rattle.listing.specs.Decimal.{decimal-short}
-use Rattle.listing.specs.Lines.{shortLine, line-length, line-room, line-short, line-end}
-use Rattle.listing.specs.Place.{put, not-put}
+use Rattle.listing.specs.Lines.{shortLine, line-length, line-counted, line-end}
+use Rattle.listing.specs.Place.{over, fits-room, fits-put, fits-not}
 use Rattle.listing.proofs.line.put_line.Statement.{statement}
 use Rattle.listing.proofs.line.put_line.Tie as tie
 
-digits-requires : tie.Need-digits-requires
-digits-requires c κs = search needs
+-- The line fits.
+room : (c : tie.Then1) → let a = c .before .before .before .before .before .before .args in a .at + length (shortLine (now (a .word)) (a .n)) ≤ length (now (a .out))
+room c =
+    let tested = c .before in
+    let a = tested .before .before .before .before .before .args in
+    fits-room (a .at) (shortLine (now (a .word)) (a .n)) (now (a .out)) (line-counted (now (a .word)) (a .n) (tested .before .digits .ensures)) (tested .fits2 .ensures) (c .if1 .taken)
+
+-- The newline stands behind the number, and the line is whole with it.
+ended : (c : tie.After-write-field) → let a = c .before .before .before .before .before .before .before .before .args in
+    (c .write-field .result < length (c .write-field .last .0))
+    × (c .write-field .result + 1 ≡ a .at + length (shortLine (now (a .word)) (a .n)))
+    × (set (c .write-field .last .0) (c .write-field .result) newline ≡ over (a .at) (shortLine (now (a .word)) (a .n)) (now (a .out)))
+ended c =
+    let a = c .before .before .before .before .before .before .before .before .args in
+    line-end (now (a .word)) (a .n) (a .at) (now (a .out)) (room (c .before .before)) (c .write-field .ensures .0) (c .write-field .ensures .1)
 
 add-fits : tie.Need-add-fits
 add-fits c = omega (arith, decimal-short (c .before .before .before .before .args .n))
@@ -18,65 +34,30 @@ add-fits c = omega (arith, decimal-short (c .before .before .before .before .arg
 add-fits-2 : tie.Need-add-fits-2
 add-fits-2 c = omega (arith, decimal-short (c .before .before .before .before .args .n))
 
-fits-requires : tie.Need-fits-requires
-fits-requires c κs = search needs
-
 write-field-requires : tie.Need-write-field-requires
-write-field-requires c κs =
-    let tested = c .before .before in
-    let a = tested .before .before .before .before .before .args in
-    let room = line-room (now (a .word)) (a .n) (a .at) (now (a .out)) (tested .before .digits .ensures) (sym (tested .fits2 .ensures) ∙ c .before .if1 .taken) in
-    omega (arith, line-length (now (a .word)) (a .n))
+write-field-requires c κs = let a = c .before .before .before .before .before .before .before .args in omega (arith, room (c .before), line-length (now (a .word)) (a .n))
 
 slice-write-out : tie.Need-slice-write-out
-slice-write-out c =
-    let written = c .before .before in
-    let tested = written .before .before .before in
-    let a = tested .before .before .before .before .before .args in
-    let room = line-room (now (a .word)) (a .n) (a .at) (now (a .out)) (tested .before .digits .ensures) (sym (tested .fits2 .ensures) ∙ written .before .before .if1 .taken) in
-    line-end (now (a .word)) (a .n) (a .at) (now (a .out)) room (written .write-field .ensures .0) (written .write-field .ensures .1) .0
+slice-write-out c = ended (c .before .before) .0
 
 add-result : tie.Need-add-result
-add-result c =
-    let written = c .before .before in
-    let tested = written .before .before .before in
-    let a = tested .before .before .before .before .before .args in
-    let room = line-room (now (a .word)) (a .n) (a .at) (now (a .out)) (tested .before .digits .ensures) (sym (tested .fits2 .ensures) ∙ written .before .before .if1 .taken) in
-    omega (arith, line-end (now (a .word)) (a .n) (a .at) (now (a .out)) room (written .write-field .ensures .0) (written .write-field .ensures .1) .1)
-
-same-length : tie.Need-same-length
-same-length c = search needs
+add-result c = omega (arith, ended (c .before .before) .1, room (c .before .before .before .before))
 
 returns : tie.Need-returns
 returns c =
-    let written = c .before .before in
-    let tested = written .before .before .before in
+    let fitting = c .before .before .before .before in
+    let tested = fitting .before in
     let a = tested .before .before .before .before .before .args in
-    let room = line-room (now (a .word)) (a .n) (a .at) (now (a .out)) (tested .before .digits .ensures) (sym (tested .fits2 .ensures) ∙ written .before .before .if1 .taken) in
-    let end = line-end (now (a .word)) (a .n) (a .at) (now (a .out)) room (written .write-field .ensures .0) (written .write-field .ensures .1) in
-    put (a .at) (shortLine (now (a .word)) (a .n)) (now (a .out)) room (end .1) (end .2)
-
-same-length-2 : tie.Need-same-length-2
-same-length-2 c = search needs
+    let end = ended (c .before .before) in
+    fits-put (a .at) (shortLine (now (a .word)) (a .n)) (now (a .out)) (line-counted (now (a .word)) (a .n) (tested .before .digits .ensures)) (tested .fits2 .ensures) (fitting .if1 .taken) (end .1) (end .2)
 
 returns-2 : tie.Need-returns-2
 returns-2 c =
     let tested = c .before in
     let a = tested .before .before .before .before .before .args in
-    not-put (a .at) (shortLine (now (a .word)) (a .n)) (now (a .out)) (line-short (now (a .word)) (a .n) (a .at) (now (a .out)) (tested .before .digits .ensures) (sym (tested .fits2 .ensures) ∙ c .if1 .left))
+    fits-not (a .at) (shortLine (now (a .word)) (a .n)) (now (a .out)) (line-counted (now (a .word)) (a .n) (tested .before .digits .ensures)) (tested .fits2 .ensures) (c .if1 .left)
 
 pub put-line-spec : {M : Type 1} → statement M
 put-line-spec =
-    tie.close
-    (tie.spec
-    digits-requires
-    add-fits
-    add-fits-2
-    fits-requires
-    write-field-requires
-    slice-write-out
-    add-result
-    same-length
-    returns
-    same-length-2
-    returns-2)
+    tie.close (tie.spec (search needs) add-fits add-fits-2 (search needs) write-field-requires slice-write-out add-result
+    (λ c. search needs) returns (search needs) returns-2)

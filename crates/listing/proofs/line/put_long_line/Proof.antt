@@ -1,25 +1,21 @@
 -- `listing::line::put_long_line` puts two words with their numbers, and an ending, where they fit. Assumes nothing.
-use mathlib.Core.Path.{sym, _∙_}
+use mathlib.Core.Path.{_≡_}
+use Prim.Native.Nat.{_+_}
 use native.Mathlib.Omega.{arith}
 use denote.Ref.{now}
+use lib.ListN.{length}
 use borrow.Author.Needs.{needs}
 use Rattle.listing.specs.Decimal.{decimal-short}
-use Rattle.listing.specs.Lines.{longLine, long-room, long-short}
-use Rattle.listing.specs.Place.{put, not-put}
+use Rattle.listing.specs.Lines.{longLine, long-counted}
+use Rattle.listing.specs.Place.{fits-room, fits-put, fits-not}
 use Rattle.listing.proofs.line.put_long_line.Statement.{statement}
 use Rattle.listing.proofs.line.put_long_line.Tie as tie
-
-digits-requires : tie.Need-digits-requires
-digits-requires c κs = search needs
 
 add-fits : tie.Need-add-fits
 add-fits c = omega (arith, decimal-short (c .before .before .before .before .before .before .args .n))
 
 add-fits-2 : tie.Need-add-fits-2
 add-fits-2 c = omega (arith, decimal-short (c .before .before .before .before .before .before .args .n))
-
-digits-requires-2 : tie.Need-digits-requires-2
-digits-requires-2 c κs = search needs
 
 add-fits-3 : tie.Need-add-fits-3
 add-fits-3 c =
@@ -31,54 +27,35 @@ add-fits-4 c =
     let a = c .before .before .before .before .before .before .before .args in
     omega (arith, decimal-short (a .n), decimal-short (a .k))
 
-fits-requires : tie.Need-fits-requires
-fits-requires c κs = search needs
+-- The bytes of the line, counted, and the test that they fit.
+counted : (c : tie.After-fits2) → let a = c .before .before .before .before .before .before .before .before .args in
+    length (now (a .word)) + c .before .before .digits .result + length (now (a .other)) + c .before .digits2 .result + length (now (a .ending)) ≡ length (longLine (now (a .word)) (a .n) (now (a .other)) (a .k) (now (a .ending)))
+counted c =
+    let a = c .before .before .before .before .before .before .before .before .args in
+    long-counted (now (a .word)) (a .n) (now (a .other)) (a .k) (now (a .ending)) (c .before .before .digits .ensures) (c .before .digits2 .ensures)
 
 write-long-line-requires : tie.Need-write-long-line-requires
 write-long-line-requires c κs =
     let tested = c .before .before in
-    let two = tested .before in
-    let one = two .before in
-    let a = one .before .before .before .before .before .before .args in
-    long-room (now (a .word)) (a .n) (now (a .other)) (a .k) (now (a .ending)) (a .at) (now (a .out)) (one .digits .ensures) (two .digits2 .ensures) (sym (tested .fits2 .ensures) ∙ c .before .if1 .taken)
-
-same-length : tie.Need-same-length
-same-length c = search needs
+    let a = tested .before .before .before .before .before .before .before .before .args in
+    fits-room (a .at) (longLine (now (a .word)) (a .n) (now (a .other)) (a .k) (now (a .ending))) (now (a .out)) (counted tested) (tested .fits2 .ensures) (c .before .if1 .taken)
 
 returns : tie.Need-returns
 returns c =
     let written = c .before .before in
-    let tested = written .before .before .before in
-    let two = tested .before in
-    let one = two .before in
-    let a = one .before .before .before .before .before .before .args in
-    let room = long-room (now (a .word)) (a .n) (now (a .other)) (a .k) (now (a .ending)) (a .at) (now (a .out)) (one .digits .ensures) (two .digits2 .ensures) (sym (tested .fits2 .ensures) ∙ written .before .before .if1 .taken) in
-    put (a .at) (longLine (now (a .word)) (a .n) (now (a .other)) (a .k) (now (a .ending))) (now (a .out)) room (written .write-long-line .ensures .0) (written .write-long-line .ensures .1)
-
-same-length-2 : tie.Need-same-length-2
-same-length-2 c = search needs
+    let fitting = written .before .before in
+    let tested = fitting .before in
+    let a = tested .before .before .before .before .before .before .before .before .args in
+    fits-put (a .at) (longLine (now (a .word)) (a .n) (now (a .other)) (a .k) (now (a .ending))) (now (a .out)) (counted tested) (tested .fits2 .ensures) (fitting .if1 .taken)
+    (written .write-long-line .ensures .0) (written .write-long-line .ensures .1)
 
 returns-2 : tie.Need-returns-2
 returns-2 c =
     let tested = c .before in
-    let two = tested .before in
-    let one = two .before in
-    let a = one .before .before .before .before .before .before .args in
-    not-put (a .at) (longLine (now (a .word)) (a .n) (now (a .other)) (a .k) (now (a .ending))) (now (a .out)) (long-short (now (a .word)) (a .n) (now (a .other)) (a .k) (now (a .ending)) (a .at) (now (a .out)) (one .digits .ensures) (two .digits2 .ensures) (sym (tested .fits2 .ensures) ∙ c .if1 .left))
+    let a = tested .before .before .before .before .before .before .before .before .args in
+    fits-not (a .at) (longLine (now (a .word)) (a .n) (now (a .other)) (a .k) (now (a .ending))) (now (a .out)) (counted tested) (tested .fits2 .ensures) (c .if1 .left)
 
 pub put-long-line-spec : {M : Type 1} → statement M
 put-long-line-spec =
-    tie.close
-    (tie.spec
-    digits-requires
-    add-fits
-    add-fits-2
-    digits-requires-2
-    add-fits-3
-    add-fits-4
-    fits-requires
-    write-long-line-requires
-    same-length
-    returns
-    same-length-2
-    returns-2)
+    tie.close (tie.spec (search needs) add-fits add-fits-2 (search needs) add-fits-3 add-fits-4 (search needs)
+    write-long-line-requires (search needs) returns (search needs) returns-2)

@@ -7,17 +7,11 @@ use Rattle.listing.specs.Place.{then, then-room}
 use Rattle.listing.proofs.line.write_field.Statement.{statement}
 use Rattle.listing.proofs.line.write_field.Tie as tie
 
-write-word-requires : tie.Need-write-word-requires
-write-word-requires c κs = search needs
-
 write-decimal-requires : tie.Need-write-decimal-requires
 write-decimal-requires c κs =
     let called = c .before .before .before in
     let a = called .before .before .before .before .args in
     then-room (a .at) (now (a .word)) (decimal (a .n)) (now (a .out)) (called .write-word .ensures .0) (called .write-word .ensures .1) (omega arith)
-
-same-length : tie.Need-same-length
-same-length c = search needs
 
 returns : tie.Need-returns
 returns c =
@@ -27,4 +21,4 @@ returns c =
     then (a .at) (now (a .word)) (decimal (a .n)) (now (a .out)) (omega arith) (called .write-word .ensures .0) (called .write-word .ensures .1) (last .write-decimal .ensures .0) (last .write-decimal .ensures .1)
 
 pub write-field-spec : {M : Type 1} → statement M
-write-field-spec = tie.close (tie.spec write-word-requires write-decimal-requires same-length returns)
+write-field-spec = tie.close (tie.spec (search needs) write-decimal-requires (search needs) returns)

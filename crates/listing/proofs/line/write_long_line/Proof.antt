@@ -27,9 +27,6 @@ write-word-requires c κs =
     ending-room (now (a .word)) (a .n) (now (a .other)) (a .k) (now (a .ending)) (a .at) (now (a .out)) (start .pre) (one .write-field .ensures .0) (one .write-field .ensures .1)
     (two .write-field2 .ensures .0) (two .write-field2 .ensures .1)
 
-same-length : tie.Need-same-length
-same-length c = search needs
-
 returns : tie.Need-returns
 returns c =
     let last = c .before .before in
@@ -41,4 +38,5 @@ returns c =
     (two .write-field2 .ensures .0) (two .write-field2 .ensures .1) (last .write-word .ensures .0) (last .write-word .ensures .1)
 
 pub write-long-line-spec : {M : Type 1} → statement M
-write-long-line-spec = tie.close (tie.spec write-field-requires write-field-requires-2 write-word-requires same-length returns)
+write-long-line-spec =
+    tie.close (tie.spec write-field-requires write-field-requires-2 write-word-requires (search needs) returns)

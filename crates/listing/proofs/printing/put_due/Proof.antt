@@ -1,7 +1,7 @@
 -- `listing::printing::put_due` puts the line of a page behind its last row, and nothing behind its other rows. Assumes nothing.
 use mathlib.Core.Path.{_≡_}
 use mathlib.Core.Logic.{⊎-elim}
-use Prim.Native.Nat.{_/_, _%_, _+_}
+use Prim.Native.Nat.{_/_, _%_, _+_, _<_}
 use native.Mathlib.Nat.{mod-lt, div-le-self}
 use native.Mathlib.Omega.{arith}
 use denote.Ref.{now}
@@ -13,9 +13,6 @@ use Rattle.listing.specs.Printed.{dueText, due-within, due-at-end, due-a
 use Rattle.listing.proofs.printing.put_due.Statement.{statement}
 use Rattle.listing.proofs.printing.put_due.Tie as tie
 
-rem-row : tie.Need-rem-row
-rem-row c = search needs
-
 add-row : tie.Need-add-row
 add-row c = let a = c .before .args in omega (arith, mod-lt (a .done) (c .before .pre .0))
 
@@ -23,19 +20,11 @@ returns : tie.Need-returns
 returns c =
     let start = c .before .before .before in
     let a = start .args in
-    rw (c .before .if1 .taken, due-within (a .size) (a .done) (start .pre .0) (ltb-true _ _ (c .if2 .taken))) (put-nothing (a .at) (now (a .out)))
-
-div-put-page : tie.Need-div-put-page
-div-put-page c = search needs
+    let within : a .done % a .size + 1 < a .size = ltb-true (a .done % a .size + 1) (a .size) (c .if2 .taken) in
+    rw (c .before .if1 .taken, due-within (a .size) (a .done) (start .pre .0) within) (put-nothing (a .at) (now (a .out)))
 
 add-put-page : tie.Need-add-put-page
 add-put-page c = let a = c .before .before .before .args in omega (arith, div-le-self (a .done) (a .size))
-
-put-page-requires : tie.Need-put-page-requires
-put-page-requires c κs = search needs
-
-same-length : tie.Need-same-length
-same-length c = search needs
 
 -- By which way the line is due.
 due : (c : tie.Joined1) → let a = c .before .before .args in dueText (a .size) (a .done) (a .further) ≡ pageText (a .done / a .size + 1) (a .done % a .size + 1) (a .further)
@@ -49,13 +38,5 @@ returns-2 c = rw (due (c .before .before .before .before)) (c .before .before .p
 
 pub put-due-spec : {M : Type 1} → statement M
 put-due-spec =
-    tie.close
-    (tie.spec
-    rem-row
-    add-row
-    returns
-    div-put-page
-    add-put-page
-    put-page-requires
-    same-length
+    tie.close (tie.spec (search needs) add-row returns (search needs) add-put-page (search needs) (search needs)
     returns-2)

@@ -15,14 +15,8 @@ Inv-loop n k₀ rest₀ k rest = k + length (decimal rest) ≡ 1 + length (decim
 abbrev μ-loop : tie.MeasureT-loop
 μ-loop n k₀ rest₀ k rest = rest
 
-loop-holds : tie.Need-loop-holds Inv-loop μ-loop
-loop-holds c = omega arith
-
 add-k : tie.Need-add-k Inv-loop μ-loop
 add-k c = omega (arith, decimal-length-more (c .before .loop .rest) (c .loop-test .taken), decimal-short (c .before .before .args .n))
-
-loop-less : tie.Need-loop-less Inv-loop μ-loop
-loop-less c = omega arith
 
 loop-again : tie.Need-loop-again Inv-loop μ-loop
 loop-again c = omega (arith, decimal-length-more (c .before .loop .rest) (c .loop-test .taken))
@@ -31,4 +25,4 @@ returns : tie.Need-returns Inv-loop μ-loop
 returns c = omega (arith, ap length (decimal-digit (c .before .loop .rest) (c .loop-test .left)))
 
 pub digits-spec : {M : Type 1} → statement M
-digits-spec = tie.close (tie.spec Inv-loop μ-loop loop-holds add-k loop-less loop-again returns)
+digits-spec = tie.close (tie.spec Inv-loop μ-loop (λ c. omega arith) add-k (λ c. omega arith) loop-again returns)

@@ -9,9 +9,6 @@ use Rattle.listing.specs.Place.{room-test}
 use Rattle.listing.proofs.text.fits.Statement.{statement}
 use Rattle.listing.proofs.text.fits.Tie as tie
 
-sub-result : tie.Need-sub-result
-sub-result c = search needs
-
 returns : tie.Need-returns
 returns c = room-test (c .before .args .at) (c .before .args .n) (length (c .before .args .out .now)) (c .if1 .taken)
 
@@ -22,4 +19,4 @@ returns-2 c =
     lt-leb _ _ (c .if1 .left) ∙ sym (lt-leb _ _ short)
 
 pub fits-spec : {M : Type 1} → statement M
-fits-spec = tie.close (tie.spec sub-result returns returns-2)
+fits-spec = tie.close (tie.spec (search needs) returns returns-2)

@@ -23,18 +23,6 @@ abbrev μ-loop : tie.MeasureT-loop
 returns : tie.Need-returns Inv-loop μ-loop
 returns c = let a = c .before .before .args in ap (λ (n : ℕ). leb n (a .room)) (sym (row-none (now (a .row)) (c .if1 .taken)))
 
-loop-holds : tie.Need-loop-holds Inv-loop μ-loop
-loop-holds c = omega arith
-
-mul-digits : tie.Need-mul-digits Inv-loop μ-loop
-mul-digits c = search needs
-
-shared-slice-read-digits : tie.Need-shared-slice-read-digits Inv-loop μ-loop
-shared-slice-read-digits c = search needs
-
-digits-requires : tie.Need-digits-requires Inv-loop μ-loop
-digits-requires c κs = search needs
-
 add-k : tie.Need-add-k Inv-loop μ-loop
 add-k c = let turn = c .before .before in omega (arith, c .digits .ensures, decimal-short (getD (now (turn .before .before .before .before .args .row)) (turn .before .loop .i) 0), c .before .shared-slice-known2 .given (turn .before .loop .i))
 
@@ -48,12 +36,6 @@ returns-2 c =
     let more = bytes-turn row (now′ .i) (turn .loop-test .taken) in
     let short : start .before .before .args .room < length (rowText row) = omega (arith, c .before .digits .ensures) in
     sym (lt-leb _ _ short)
-
-add-i : tie.Need-add-i Inv-loop μ-loop
-add-i c = search needs
-
-loop-less : tie.Need-loop-less Inv-loop μ-loop
-loop-less c = omega arith
 
 loop-again : tie.Need-loop-again Inv-loop μ-loop
 loop-again c =
@@ -72,18 +54,5 @@ returns-3 c =
 
 pub row-fits-spec : {M : Type 1} → statement M
 row-fits-spec =
-    tie.close
-    (tie.spec
-    Inv-loop
-    μ-loop
-    returns
-    loop-holds
-    mul-digits
-    shared-slice-read-digits
-    digits-requires
-    add-k
-    returns-2
-    add-i
-    loop-less
-    loop-again
-    returns-3)
+    tie.close (tie.spec Inv-loop μ-loop returns (λ c. omega arith) (search needs) (search needs) (search needs) add-k
+    returns-2 (search needs) (λ c. omega arith) loop-again returns-3)

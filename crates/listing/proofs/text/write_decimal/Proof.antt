@@ -21,9 +21,6 @@ Inv-loop out₀ at n end place₀ rest₀ out place rest =
 abbrev μ-loop : tie.MeasureT-loop
 μ-loop out₀ at n end place₀ rest₀ out place rest = rest
 
-digits-requires : tie.Need-digits-requires Inv-loop μ-loop
-digits-requires c κs = search needs
-
 add-end : tie.Need-add-end Inv-loop μ-loop
 add-end c = omega (arith, c .digits .ensures)
 
@@ -33,17 +30,8 @@ loop-holds c = (refl, ap (λ (k : ℕ). c .before .before .args .at + k) (c .dig
 sub-place : tie.Need-sub-place Inv-loop μ-loop
 sub-place c = omega (arith, decimal-some (c .before .loop .rest))
 
-cast-out : tie.Need-cast-out Inv-loop μ-loop
-cast-out c = search needs
-
-add-out : tie.Need-add-out Inv-loop μ-loop
-add-out c = search needs
-
 slice-write-out : tie.Need-slice-write-out Inv-loop μ-loop
 slice-write-out c = omega (arith, decimal-some (c .before .loop .rest))
-
-loop-less : tie.Need-loop-less Inv-loop μ-loop
-loop-less c = omega arith
 
 loop-again : tie.Need-loop-again Inv-loop μ-loop
 loop-again c =
@@ -55,12 +43,6 @@ loop-again c =
       omega arith,
       decimal-turn (c .before .before .before .before .args .at) (now .place) (now .rest) (now .out) large (now .inv .1) (omega arith) ∙ now .inv .3,
     )
-
-cast-out-2 : tie.Need-cast-out-2 Inv-loop μ-loop
-cast-out-2 c = search needs
-
-add-out-2 : tie.Need-add-out-2 Inv-loop μ-loop
-add-out-2 c = search needs
 
 slice-write-out-2 : tie.Need-slice-write-out-2 Inv-loop μ-loop
 slice-write-out-2 c = omega (arith, decimal-some (c .before .before .before .before .args .n))
@@ -77,21 +59,5 @@ returns c =
 
 pub write-decimal-spec : {M : Type 1} → statement M
 write-decimal-spec =
-    tie.close
-    (tie.spec
-    Inv-loop
-    μ-loop
-    digits-requires
-    add-end
-    loop-holds
-    sub-place
-    cast-out
-    add-out
-    slice-write-out
-    loop-less
-    loop-again
-    cast-out-2
-    add-out-2
-    slice-write-out-2
-    same-length
-    returns)
+    tie.close (tie.spec Inv-loop μ-loop (search needs) add-end loop-holds sub-place (search needs) (search needs)
+    slice-write-out (λ c. omega arith) loop-again (search needs) (search needs) slice-write-out-2 same-length returns)

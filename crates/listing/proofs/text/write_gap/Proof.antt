@@ -1,5 +1,5 @@
 -- `listing::text::write_gap` writes a space before every number but the first. Assumes nothing.
-use mathlib.Core.Path.{sym, ap}
+use mathlib.Core.Path.{_≡_, refl, sym, ap}
 use native.Mathlib.Nat.{add-zero}
 use native.Mathlib.Omega.{arith}
 use denote.Ref.{now}
@@ -14,22 +14,17 @@ use Rattle.listing.proofs.text.write_gap.Tie as tie
 returns : tie.Need-returns
 returns c =
     let a = c .before .args in
-    rw (gap-first (c .if1 .taken)) (sym (add-zero (a .at)), sym (over-nothing (a .at) (now (a .out))))
+    let first : a .i ≡ 0 = omega arith in
+    rw (gap-first first) (sym (add-zero (a .at)), sym (over-nothing (a .at) (now (a .out))))
 
 slice-write-out : tie.Need-slice-write-out
 slice-write-out c = omega (arith, ap length (gap-other (c .before .args .i) (c .if1 .left)))
-
-add-result : tie.Need-add-result
-add-result c = search needs
-
-same-length : tie.Need-same-length
-same-length c = search needs
 
 returns-2 : tie.Need-returns-2
 returns-2 c =
     let a = c .before .args in
     let gap = gap-other (a .i) (c .if1 .left) in
-    rw gap (mathlib.Core.Path.refl, over-byte (a .at) space (now (a .out)) (omega (arith, ap length gap)))
+    rw gap (refl, over-byte (a .at) space (now (a .out)) (omega (arith, ap length gap)))
 
 pub write-gap-spec : {M : Type 1} → statement M
-write-gap-spec = tie.close (tie.spec returns slice-write-out add-result same-length returns-2)
+write-gap-spec = tie.close (tie.spec returns slice-write-out (search needs) (search needs) returns-2)

@@ -30,12 +30,6 @@ write-gap-requires c κs =
     let turn = c .before in
     omega (arith, left-turn-length (now (turn .before .before .before .before .args .row)) (turn .before .loop .i) (turn .loop-test .taken))
 
-mul-write-decimal : tie.Need-mul-write-decimal Inv-loop μ-loop
-mul-write-decimal c = search needs
-
-shared-slice-read-write-decimal : tie.Need-shared-slice-read-write-decimal Inv-loop μ-loop
-shared-slice-read-write-decimal c = search needs
-
 write-decimal-requires : tie.Need-write-decimal-requires Inv-loop μ-loop
 write-decimal-requires c κs =
     let wrote = c .before .before .before .before in
@@ -44,12 +38,6 @@ write-decimal-requires c κs =
     let row = now (turn .before .before .before .before .args .row) in
     let whole = left-turn-length row (here .i) (turn .loop-test .taken) in
     then-room (here .place) (gap (here .i)) (decimal (getD row (here .i) 0)) (here .out) (wrote .write-gap .ensures .0) (wrote .write-gap .ensures .1) (omega arith)
-
-add-i : tie.Need-add-i Inv-loop μ-loop
-add-i c = omega arith
-
-loop-less : tie.Need-loop-less Inv-loop μ-loop
-loop-less c = omega arith
 
 loop-again : tie.Need-loop-again Inv-loop μ-loop
 loop-again c =
@@ -87,19 +75,6 @@ returns c =
 
 pub write-row-spec : {M : Type 1} → statement M
 write-row-spec =
-    tie.close
-    (tie.spec
-    Inv-loop
-    μ-loop
-    loop-holds
-    write-gap-requires
-    mul-write-decimal
-    shared-slice-read-write-decimal
-    write-decimal-requires
-    add-i
-    loop-less
-    loop-again
-    slice-write-out
-    add-result
-    same-length
+    tie.close (tie.spec Inv-loop μ-loop loop-holds write-gap-requires (search needs) (search needs)
+    write-decimal-requires (λ c. omega arith) (λ c. omega arith) loop-again slice-write-out add-result same-length
     returns)

@@ -8,11 +8,8 @@ use Rattle.listing_program.proofs.output.make_room.Tie as tie
 returns : tie.Need-returns
 returns c = sym (rw (lt-ltb _ _ (c .if1 .taken)))
 
-show-requires : tie.Need-show-requires
-show-requires c κs = search needs
-
 returns-2 : tie.Need-returns-2
 returns-2 c = sym (rw (le-ltb _ _ (c .before .if1 .left)))
 
 pub make-room-spec : {M : Type 1} → statement M
-make-room-spec = tie.close (tie.spec returns show-requires returns-2)
+make-room-spec = tie.close (tie.spec returns (search needs) returns-2)

@@ -23,12 +23,6 @@ inside c =
     let a = start .args in
     row-within (c .before .loop .i) (a .count) (a .width) (length (now (a .rows))) (c .loop-test .taken) (start .pre .1 .0)
 
-buffer-requires : tie.Need-buffer-requires Inv-loop μ-loop
-buffer-requires c κs = search needs
-
-slice-aggregate-text : tie.Need-slice-aggregate-text Inv-loop μ-loop
-slice-aggregate-text c = search needs
-
 loop-holds : tie.Need-loop-holds Inv-loop μ-loop
 loop-holds c = (omega arith, omega arith, sym (c .before .buffer .ensures))
 
@@ -41,23 +35,8 @@ add-to c = omega (arith, inside c)
 mul-put-step : tie.Need-mul-put-step Inv-loop μ-loop
 mul-put-step c = omega (arith, inside (c .before))
 
-sub-put-step : tie.Need-sub-put-step Inv-loop μ-loop
-sub-put-step c = search needs
-
-part-put-step-start : tie.Need-part-put-step-start Inv-loop μ-loop
-part-put-step-start c = search needs
-
 part-put-step-end : tie.Need-part-put-step-end Inv-loop μ-loop
 part-put-step-end c = omega (arith, inside (c .before))
-
-cast-put-step : tie.Need-cast-put-step Inv-loop μ-loop
-cast-put-step c = omega arith
-
-add-put-step : tie.Need-add-put-step Inv-loop μ-loop
-add-put-step c = omega arith
-
-add-put-step-2 : tie.Need-add-put-step-2 Inv-loop μ-loop
-add-put-step-2 c = search needs
 
 put-step-requires : tie.Need-put-step-requires Inv-loop μ-loop
 put-step-requires c κs =
@@ -65,12 +44,6 @@ put-step-requires c κs =
     let start = c .before .before .before .before .before .before .before .before in
     let a = start .args in
     (here .inv .2, (here .inv .1, (row-wide (here .i) (a .width) 9 (now (a .rows)) (start .pre .0), (start .pre .1 .1 .0, omega arith))))
-
-add-i : tie.Need-add-i Inv-loop μ-loop
-add-i c = omega arith
-
-loop-less : tie.Need-loop-less Inv-loop μ-loop
-loop-less c = omega arith
 
 loop-again : tie.Need-loop-again Inv-loop μ-loop
 loop-again c =
@@ -81,30 +54,8 @@ loop-again c =
 show-requires : tie.Need-show-requires Inv-loop μ-loop
 show-requires c κs = c .before .before .loop .inv .1
 
-returns : tie.Need-returns Inv-loop μ-loop
-returns c = search needs
-
 pub print-rows-spec : {M : Type 1} → statement M
 print-rows-spec =
-    tie.close
-    (tie.spec
-    Inv-loop
-    μ-loop
-    buffer-requires
-    slice-aggregate-text
-    loop-holds
-    mul-from
-    add-to
-    mul-put-step
-    sub-put-step
-    part-put-step-start
-    part-put-step-end
-    cast-put-step
-    add-put-step
-    add-put-step-2
-    put-step-requires
-    add-i
-    loop-less
-    loop-again
-    show-requires
-    returns)
+    tie.close (tie.spec Inv-loop μ-loop (search needs) (search needs) loop-holds mul-from add-to mul-put-step
+    (search needs) (search needs) part-put-step-end (λ c. omega arith) (λ c. omega arith) (search needs)
+    put-step-requires (λ c. omega arith) (λ c. omega arith) loop-again show-requires (search needs))

@@ -7,18 +7,6 @@ use Rattle.listing_program.specs.Room.{step-put}
 use Rattle.listing_program.proofs.output.put_step.Statement.{statement}
 use Rattle.listing_program.proofs.output.put_step.Tie as tie
 
-make-room-requires : tie.Need-make-room-requires
-make-room-requires c κs = search needs
-
-put-row-requires : tie.Need-put-row-requires
-put-row-requires c κs = search needs
-
-put-due-requires : tie.Need-put-due-requires
-put-due-requires c κs = search needs
-
-same-length : tie.Need-same-length
-same-length c = search needs
-
 returns : tie.Need-returns
 returns c =
     let due = c .before .before in
@@ -31,4 +19,4 @@ returns c =
     (room .make-room .ensures) (row .put-row .ensures .0) (row .put-row .ensures .1) (due .put-due .ensures .0) (due .put-due .ensures .1)
 
 pub put-step-spec : {M : Type 1} → statement M
-put-step-spec = tie.close (tie.spec make-room-requires put-row-requires put-due-requires same-length returns)
+put-step-spec = tie.close (tie.spec (search needs) (search needs) (search needs) (search needs) returns)

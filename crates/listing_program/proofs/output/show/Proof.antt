@@ -8,11 +8,5 @@ use Rattle.listing_program.proofs.output.show.Tie as tie
 slice-aggregate-write-all : tie.Need-slice-aggregate-write-all
 slice-aggregate-write-all c = sym (length-take-le (c .before .before .args .n) _ (c .before .before .pre))
 
-write-all-requires : tie.Need-write-all-requires
-write-all-requires c κs = search needs
-
-returns : tie.Need-returns
-returns c = search needs
-
 pub show-spec : {M : Type 1} → statement M
-show-spec = tie.close (tie.spec slice-aggregate-write-all write-all-requires returns)
+show-spec = tie.close (tie.spec slice-aggregate-write-all (search needs) (search needs))

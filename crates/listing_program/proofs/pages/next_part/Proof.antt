@@ -14,12 +14,6 @@ use Rattle.listing_program.proofs.pages.next_part.Tie as tie
 inside : (c : tie.Start) → let a = c .args in (a .count - 1) * (a .top + 1) + (a .top + 1) ≤ length (now (a .rows))
 inside c = let a = c .args in row-within (a .count - 1) (a .count) (a .top + 1) (length (now (a .rows))) (omega arith) (c .pre .1 .1)
 
-sub-last : tie.Need-sub-last
-sub-last c = search needs
-
-add-last : tie.Need-add-last
-add-last c = search needs
-
 mul-last : tie.Need-mul-last
 mul-last c = omega (arith, inside (c .before))
 
@@ -38,24 +32,6 @@ mul-t11 c = omega (arith, inside (c .before .before))
 slice-read-t16 : tie.Need-slice-read-t16
 slice-read-t16 c = omega (arith, inside (c .before .before .before))
 
-page-requires : tie.Need-page-requires
-page-requires c κs = search needs
-
-enum-told : tie.Need-enum-told
-enum-told c = search needs
-
-enum-known-answer : tie.Need-enum-known-answer
-enum-known-answer c = search needs
-
-same-length : tie.Need-same-length
-same-length c = search needs
-
-returns : tie.Need-returns
-returns c = search needs
-
-same-length-2 : tie.Need-same-length-2
-same-length-2 c = search needs
-
 returns-2 : tie.Need-returns-2
 returns-2 c =
     let called = c .before .before .before .before .before in
@@ -65,20 +41,5 @@ returns-2 c =
 
 pub next-part-spec : {M : Type 1} → statement M
 next-part-spec =
-    tie.close
-    (tie.spec
-    sub-last
-    add-last
-    mul-last
-    mul-t10
-    slice-read-t14
-    add-t12
-    mul-t11
-    slice-read-t16
-    page-requires
-    enum-told
-    enum-known-answer
-    same-length
-    returns
-    same-length-2
-    returns-2)
+    tie.close (tie.spec (search needs) (search needs) mul-last mul-t10 slice-read-t14 add-t12 mul-t11 slice-read-t16
+    (search needs) (search needs) (search needs) (search needs) (search needs) (search needs) returns-2)

@@ -22,6 +22,9 @@ abbrev μ-loop : tie.MeasureT-loop
 few : (top n size : ℕ) → n * (top + 1) ≤ size → size ≤ 36864 → n ≤ 36864
 few top n size h k = let r = rows-few n (top + 1) size (omega arith) h in omega arith
 
+few-at-hand : (c : tie.Start Inv-loop μ-loop) → c .args .count ≤ 36864
+few-at-hand c = few (c .args .top) (c .args .count) (length (now (c .args .rows))) (c .pre .1 .1 .1 .0) (c .pre .1 .1 .0)
+
 -- What a turn starts with.
 turn : (c : tie.After-next-part-arg Inv-loop μ-loop) → let here = c .before .before .before .before .loop in (1 ≤ here .n) × (here .done < 1000000000)
 turn c = (ltb-true _ _ (c .before .before .if2 .taken), ltb-true _ _ (c .before .if3 .taken))
@@ -35,34 +38,19 @@ part c =
     let same : length (c .next-part .last .0) ≡ length (now (start .args .rows)) = c .next-part .kept .0 ∙ here .inv .0 in
     (same, few (start .args .top) (c .next-part .result .count) (length (c .next-part .last .0)) (c .next-part .ensures) (omega (arith, start .pre .1 .1 .0)))
 
-print-header-requires : tie.Need-print-header-requires Inv-loop μ-loop
-print-header-requires c κs = search needs
-
-print-empty-requires : tie.Need-print-empty-requires Inv-loop μ-loop
-print-empty-requires c κs = search needs
-
-add-width : tie.Need-add-width Inv-loop μ-loop
-add-width c = search needs
-
 print-rows-requires : tie.Need-print-rows-requires Inv-loop μ-loop
 print-rows-requires c κs =
     let start = c .before .before .before .before in
-    let a = start .args in
-    let small = few (a .top) (a .count) (length (now (a .rows))) (start .pre .1 .1 .1 .0) (start .pre .1 .1 .0) in
+    let small = few-at-hand start in
     (omega (arith, start .pre .1 .1 .1 .1), (start .pre .1 .1 .1 .0, (start .pre .1 .0, omega arith)))
 
 cast-done : tie.Need-cast-done Inv-loop μ-loop
-cast-done c =
-    let start = c .before .before .before .before .before in
-    let a = start .args in
-    let small = few (a .top) (a .count) (length (now (a .rows))) (start .pre .1 .1 .1 .0) (start .pre .1 .1 .0) in
-    omega arith
+cast-done c = omega (arith, few-at-hand (c .before .before .before .before .before))
 
 loop-holds : tie.Need-loop-holds Inv-loop μ-loop
 loop-holds c =
     let start = c .before .before .before .before .before in
-    let a = start .args in
-    let small = few (a .top) (a .count) (length (now (a .rows))) (start .pre .1 .1 .1 .0) (start .pre .1 .1 .0) in
+    let small = few-at-hand start in
     (refl, start .pre .1 .1 .1 .0, omega arith)
 
 next-part-requires : tie.Need-next-part-requires Inv-loop μ-loop
@@ -90,33 +78,11 @@ loop-again c =
     let called = c .before .before .before .before in
     (part called .0, called .next-part .ensures, omega (arith, part called .1, turn (called .before) .1))
 
-print-total-requires : tie.Need-print-total-requires Inv-loop μ-loop
-print-total-requires c κs = search needs
-
 same-length : tie.Need-same-length Inv-loop μ-loop
 same-length c = c .before .before .loop .inv .0
 
-returns : tie.Need-returns Inv-loop μ-loop
-returns c = search needs
-
 pub print-pages-spec : {M : Type 1} → statement M
 print-pages-spec =
-    tie.close
-    (tie.spec
-    Inv-loop
-    μ-loop
-    print-header-requires
-    print-empty-requires
-    add-width
-    print-rows-requires
-    cast-done
-    loop-holds
-    next-part-requires
-    print-rows-requires-2
-    cast-done-2
-    add-done
-    loop-less
-    loop-again
-    print-total-requires
-    same-length
-    returns)
+    tie.close (tie.spec Inv-loop μ-loop (search needs) (search needs) (search needs) print-rows-requires cast-done
+    loop-holds next-part-requires print-rows-requires-2 cast-done-2 add-done loop-less loop-again (search needs)
+    same-length (search needs))

@@ -33,58 +33,62 @@ module _ (t : ℕ) where
   claims = (reduction.Asked, reduction.Learnt, sizing.Asked, sizing.Learnt, Below, reads.Post, times-x.Asked, times-x.Learnt)
 
   returns : lts.Need-returns claims Entry reads.Post
-  returns c = let a = c .before .args in stopped (a .p) (a .powers .now) (a .f) (a .j) (a .r) (a .e) (a .b .now) (a .w) (inl (c .if1 .taken))
+  returns c = let a = c .before .args in stopped (a .p) (a .powers .now) (a .bound) (a .coordinate) (a .row) (a .taken) (a .basis .now) (a .least) (inl (c .if1 .taken))
 
   returns-2 : lts.Need-returns-2 claims Entry reads.Post
-  returns-2 c = let a = c .before .before .args in stopped (a .p) (a .powers .now) (a .f) (a .j) (a .r) (a .e) (a .b .now) (a .w) (inr (c .if2 .taken))
+  returns-2 c = let a = c .before .before .args in stopped (a .p) (a .powers .now) (a .bound) (a .coordinate) (a .row) (a .taken) (a .basis .now) (a .least) (inr (c .if2 .taken))
 
-  -- the row, reduced, may lower the least weight
-  lowered : (c : lts.Joined3 claims Entry reads.Post)
-      → let a = c .before .before .before .before .before .before .args in c .if3 .least ≡ min (a .w) (a .e + 1 + size (c .before .before .reduce .result))
+  -- ---- with the row reduced
+  abbrev at : lts.Joined3 claims Entry reads.Post → lts.Start claims Entry reads.Post
+  at c = c .before .before .before .before .before .before
+
+  lowered : (c : lts.Joined3 claims Entry reads.Post) → let a = at c .args in c .if3 .low ≡ min (a .least) (a .taken + 1 + size (c .before .before .reduce .result))
   lowered c = ⊎-elim (λ w. omega (arith, c .before .size .ensures .0)) (λ w. omega (arith, c .before .size .ensures .0)) (c .if3 .came)
 
+  -- what every call is owed: the modulus, the row, the powers, bounds and the array's length
   search-requires : lts.Need-search-requires claims Entry reads.Post
   search-requires c κs =
-      let at = c .before .before .before .before .before .before .before .before .before in
-      let least = lowered (c .before .before .before) in
-      (omega arith, (at .pre .1 .0, (at .pre .1 .1 .1 .0 (at .args .j - 1), (at .pre .1 .1 .1 .0, (omega arith, at .pre .1 .1 .1 .1 .1)))))
+      let joined = c .before .before .before in
+      let low = lowered joined in
+      let pre = at joined .pre .1 in
+      (omega arith, (pre .0, (pre .1 .1 .0 (at joined .args .coordinate - 1), (pre .1 .1 .0, (omega arith, pre .1 .1 .1 .1)))))
 
   returns-3 : lts.Need-returns-3 claims Entry reads.Post
   returns-3 c =
       let joined = c .before .before .before .before in
       let reduced = joined .before .before in
-      let at = reduced .before .before .before .before in
-      let a = at .args in
-      passed (a .p) (a .powers .now) (a .f) (a .j) (a .r) (a .e) (a .b .now) _ (a .w) (reduced .reduce .result) (joined .if3 .least) (c .search .result)
-      (reduced .before .before .before .if1 .left) (reduced .before .before .if2 .left) (reduced .reduce .ensures) (lowered joined) (c .before .before .before .if4 .taken)
-      (omega (arith, at .pre .1)) (c .search .ensures)
+      let a = at joined .args in
+      passed (a .p) (a .powers .now) (a .bound) (a .coordinate) (a .row) (a .taken) (a .basis .now) (a .least) (reduced .reduce .result) (joined .if3 .low)
+      (reduced .before .before .before .if1 .left) (reduced .before .before .if2 .left) (reduced .reduce .ensures) (lowered joined) (omega (arith, at joined .pre .1))
+      _ (c .search .result) (c .before .before .before .if4 .taken) (c .search .ensures)
 
   search-requires-2 : lts.Need-search-requires-2 claims Entry reads.Post
   search-requires-2 c κs =
-      let at = c .before .before .before .before .before .before .before .before .before in
-      let least = lowered (c .before .before .before) in
-      (omega arith, (at .pre .1 .0, (c .before .times-x .ensures .1, (at .pre .1 .1 .1 .0, (omega arith, length-set (at .args .b .now) _ _ ∙ at .pre .1 .1 .1 .1 .1)))))
+      let joined = c .before .before .before in
+      let low = lowered joined in
+      let pre = at joined .pre .1 in
+      (omega arith, (pre .0, (c .before .times-x .ensures .1, (pre .1 .1 .0, (omega arith, length-set (at joined .args .basis .now) _ _ ∙ pre .1 .1 .1 .1)))))
 
   search-requires-3 : lts.Need-search-requires-3 claims Entry reads.Post
   search-requires-3 c κs =
-      let at = c .before .before .before .before .before .before .before .before .before .before .before .before in
-      let taken = c .before .before .search2 .ensures in
-      let least = lowered (c .before .before .before .before .before .before) in (
-        omega arith,
-        (at .pre .1 .0, (at .pre .1 .1 .1 .0 (at .args .j - 1), (at .pre .1 .1 .1 .0, (omega (arith, taken .less), taken .sized ∙ length-set (at .args .b .now) _ _ ∙ at .pre .1 .1 .1 .1 .1)))),
-      )
+      let followed = c .before .before .search2 .ensures in
+      let joined = c .before .before .before .before .before .before in
+      let low = lowered joined in
+      let pre = at joined .pre .1 in
+      let sized = followed .sized ∙ length-set (at joined .args .basis .now) _ _ ∙ pre .1 .1 .1 .1 in
+      (omega arith, (pre .0, (pre .1 .1 .0 (at joined .args .coordinate - 1), (pre .1 .1 .0, (omega (arith, followed .less), sized)))))
 
   returns-4 : lts.Need-returns-4 claims Entry reads.Post
   returns-4 c =
-      let moved = c .before .before .before .before .before in
-      let joined = moved .before .before in
-      let reduced = joined .before .before in
-      let at = reduced .before .before .before .before in
-      let a = at .args in
       let taken = c .before .before .before .search2 in
-      followed (a .p) (a .powers .now) (a .f) (a .j) (a .r) (a .e) (a .b .now) _ _ (a .w) (reduced .reduce .result) (joined .if3 .least) (moved .times-x .result) (taken .result)
-      (c .search3 .result) (reduced .before .before .before .if1 .left) (reduced .before .before .if2 .left) (reduced .reduce .ensures) (lowered joined) (moved .times-x .ensures .0)
-      (omega (arith, at .pre .1)) (omega (arith, at .pre .1, at .pre .1 .1 .1 .1 .1)) (taken .ensures) (c .search3 .ensures)
+      let next = c .before .before .before .before .before .times-x in
+      let joined = c .before .before .before .before .before .before .before in
+      let reduced = joined .before .before in
+      let a = at joined .args in
+      followed (a .p) (a .powers .now) (a .bound) (a .coordinate) (a .row) (a .taken) (a .basis .now) (a .least) (reduced .reduce .result) (joined .if3 .low)
+      (reduced .before .before .before .if1 .left) (reduced .before .before .if2 .left) (reduced .reduce .ensures) (lowered joined) (omega (arith, at joined .pre .1))
+      _ _ (next .result) (taken .result) (c .search3 .result) (next .ensures .0) (omega (arith, at joined .pre .1, at joined .pre .1 .1 .1 .1 .1)) (taken .ensures)
+      (c .search3 .ensures)
 
 pub +search-spec : {M : Type 1} → statement M
 +search-spec =
@@ -101,17 +105,12 @@ pub +search-spec : {M : Type 1} → statement M
     (λ c. search needs)
     (λ c. search needs)
     (λ c. search needs)
-    (λ c. search needs)
-    (λ c. search needs)
     (search-requires t)
     (returns-3 t)
     (λ c. search needs)
     (λ c. search needs)
     (λ c κs. search needs)
-    (λ c. search needs)
     (search-requires-2 t)
-    (λ c. search needs)
-    (λ c. search needs)
     (λ c. search needs)
     (λ c. search needs)
     (search-requires-3 t)

@@ -16,11 +16,11 @@ use Rattle.net.proofs.search.level.Reads as reads
 use Rattle.net.proofs.search.level.Lts as lts
 
 times-x-requires : tie.Need-times-x-requires
-times-x-requires c κs = let at = c .before .before .before in (at .pre .0, at .pre .1 .0 (at .args .j))
+times-x-requires c κs = let at = c .before .before .before in (at .pre .0, at .pre .1 .0 (at .args .coordinate))
 
 -- the first row may lower the least weight
 lowered : (c : lts.Joined1 (sizing.Asked, sizing.Learnt, times-x.Asked, times-x.Learnt, searching.Asked, searching.Learnt) reads.Pre reads.Post)
-    → let a = c .before .before .before .args in c .if1 .least ≡ min (a .w) (1 + size (firstRow (a .powers .now) (a .j)))
+    → let a = c .before .before .before .args in c .if1 .low ≡ min (a .least) (1 + size (firstRow (a .powers .now) (a .coordinate)))
 lowered c = ⊎-elim (λ w. omega (arith, c .before .size .ensures .0)) (λ w. omega (arith, c .before .size .ensures .0)) (c .if1 .came)
 
 search-requires : tie.Need-search-requires
@@ -34,7 +34,7 @@ unfolding newest
 returns c =
     let joined = c .before .before .before in
     let a = joined .before .before .before .args in
-    levelled (a .p) (a .powers .now) (a .f) (a .j) (a .w) (c .before .before .times-x .result) (joined .if1 .least) (c .search .result) (c .before .before .times-x .ensures .0) (lowered joined)
+    levelled (a .p) (a .powers .now) (a .bound) (a .coordinate) (a .least) (c .before .before .times-x .result) (joined .if1 .low) (c .search .result) (c .before .before .times-x .ensures .0) (lowered joined)
     (c .search .ensures .less) (c .search .ensures .found)
 
 pub level-spec : {M : Type 1} → statement M

@@ -10,22 +10,22 @@ use Rattle.net.proofs.search.reduce.Statement.{statement}
 use Rattle.net.proofs.search.reduce.Tie as tie
 
 abbrev Invariant : tie.InvT-loop
-Invariant b e r v₀ left₀ v left = (left ≤ e) × (v ≡ reduce (newest b (e - left)) r)
+Invariant basis taken row v₀ left₀ v left = (left ≤ taken) × (v ≡ reduce (newest basis (taken - left)) row)
 
 abbrev measure : tie.MeasureT-loop
-measure b e r v₀ left₀ v left = left
+measure basis taken row v₀ left₀ v left = left
 
 loop-holds : tie.Need-loop-holds Invariant measure
-loop-holds c = (omega arith, reduce-start (c .args .b .now) (c .args .e) (c .args .r))
+loop-holds c = (omega arith, reduce-start (c .args .basis .now) (c .args .taken) (c .args .row))
 
 loop-again : tie.Need-loop-again Invariant measure
 loop-again c =
     let l = c .before .before .before .loop in
     let a = c .before .before .before .before .args in
-    (omega arith, reduce-more (a .b .now) (a .e) (l .left) (a .r) (l .v) (c .if1 .v) (omega arith) (l .inv .0) (l .inv .1) (⊎-elim (λ w. omega arith) (λ w. omega arith) (c .if1 .came)))
+    (omega arith, reduce-more (a .basis .now) (a .taken) (l .left) (a .row) (l .v) (c .if1 .v) (omega arith) (l .inv .0) (l .inv .1) (⊎-elim (λ w. omega arith) (λ w. omega arith) (c .if1 .came)))
 
 returns : tie.Need-returns Invariant measure
-returns c = let all : c .before .before .args .e - c .before .loop .left ≡ c .before .before .args .e = omega arith in rw all at (c .before .loop .inv .1)
+returns c = let all : c .before .before .args .taken - c .before .loop .left ≡ c .before .before .args .taken = omega arith in rw all at (c .before .loop .inv .1)
 
 pub reduce-spec : {M : Type 1} → statement M
 reduce-spec =

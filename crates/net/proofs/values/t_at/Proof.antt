@@ -1,6 +1,6 @@
 -- `net::values::t_at` meets its contract: before each turn `least` is what t(j) leaves of m + 1. Assumes nothing.
-use mathlib.Core.Path.{_≡_, ap, _∙_}
-use Prim.Native.Nat.{ℕ, _-_, _≤_}
+use mathlib.Core.Path.{_≡_}
+use Prim.Native.Nat.{_-_, _≤_}
 use native.Mathlib.Omega.{arith}
 use borrow.Author.Needs.{needs}
 use Rattle.net.proofs.ValueLaws.{modulus-of, rest, rest-first, rest-more, value-of}
