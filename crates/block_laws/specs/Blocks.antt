@@ -36,19 +36,19 @@ unfolding numbers
 zeros zero a = refl
 zeros (suc s) a = ap (λ (l : List ℕ). 0 ∷ l) (zeros s (suc a))
 
-pub point-zero : (p q s : ℕ) → point p q s 0 ≡ origin s
+point-zero : (p q s : ℕ) → point p q s 0 ≡ origin s
 unfolding point origin
 point-zero p q s =
     ap (λ (f : ℕ → ℕ). map f (numbers 0 s)) (fun-ext (λ j. leading-origin p q j wordDigits)) ∙ zeros s 0
 
 module _ (p : ℕ) (big : 2 ≤ p) where
-  pub coordinate-state : (q i j : ℕ) → coordinate p q j (state p q i) ≡ state p q (i + j)
+  coordinate-state : (q i j : ℕ) → coordinate p q j (state p q i) ≡ state p q (i + j)
   unfolding coordinate
   coordinate-state q i j =
       rw (state-power p big q i, rem-prod-left p (omega arith) (power q i) (power q j), ← power-add q i j, ← state-power p big q (i + j))
 
 module _ (m p q : ℕ) (positive : 1 ≤ m) (d : HasDegree p m) (nonzero : 0 < q) (residue : q < 2 ^ m) (a : accepted m p q ≡ true) where
-  pub point-state : (s i : ℕ) → point p q s (state p q i) ≡ block m p q s i
+  point-state : (s i : ℕ) → point p q s (state p q i) ≡ block m p q s i
   unfolding point block word
   point-state s i =
       let h = accepted-is m p q .0 a in

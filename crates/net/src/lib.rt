@@ -1,4 +1,4 @@
-// The t-value of a pair, by the least weight of a relation among its rows.
+// The t-value of a pair, by the least weight of rows that are not free.
 ghost use mathlib.Core.Path.{_≡_};
 ghost use Rattle.definitions.specs.Calls.{uniformity};
 use definitions::Refusal;

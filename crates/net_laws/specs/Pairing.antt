@@ -19,7 +19,7 @@ use Rattle.net_laws.specs.Additive.{Additive, additive-zero, additive-ag
 unfoldable pub pairing : ℕ → ℕ → ℕ → ℕ
 pairing p r h = 2 * rem (prod r h) p / 2 ^ degree p
 
-pub pairing-comm : (p r h : ℕ) → pairing p r h ≡ pairing p h r
+pairing-comm : (p r h : ℕ) → pairing p r h ≡ pairing p h r
 unfolding pairing
 pairing-comm p r h = rw (prod-comm r h)
 

@@ -125,7 +125,7 @@ module _ (G : ℕ → ℕ → ℕ) where
       lighter taken left all (take x) = λ c l. taken .lighter all x c (omega (arith, left .less))
 
   -- The rows themselves are free over few powers.
-  abbrev pub Known : List ℕ → ℕ → Type 0
+  abbrev Known : List ℕ → ℕ → Type 0
   Known rs W = (c : ℕ) → length rs + c < W → Free c rs
 
   pub known-more : (j d : ℕ) (rs : List ℕ) (W : ℕ) → Known rs W → Known (G j d ∷ rs) (withRow j d rs W)

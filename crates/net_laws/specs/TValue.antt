@@ -1,6 +1,6 @@
 -- The t-value of a pair is m + 1 less the least weight w: with m - t digits all shares are free just where m - t < w, since rows that are not free
 -- stay so with more powers of x. So each level of the search takes m + 1 - t(s) to m + 1 - t(s + 1), with the bound 1 for every pair, and
--- with 2 where q has an inverse modulo p; and t(1) = 0.
+-- with 2 where q has an inverse modulo p; t(1) = 0, t(s) is at least t(s - 1), and t is at most m.
 -- Assumes nothing.
 use mathlib.Core.Path.{_≡_, sym, ap, subst}
 use mathlib.Core.Logic.{_↔_}
@@ -18,7 +18,7 @@ use Rattle.net_laws.specs.Smallest.{tValue-smallest}
 use Rattle.net_laws.specs.Point.{digitRow, digitRow-suc}
 use Rattle.net_laws.specs.Share.{rowsOf, length-rowsOf, net-free}
 use Rattle.net_laws.specs.Search.{share-reach, reach-share}
-use Rattle.net_laws.specs.Weight.{level, AllFree, Least, Sound, sound-one, least-zero, least-unique, level-least}
+use Rattle.net_laws.specs.Weight.{level, AllFree, Least, Sound, sound-one, least-zero, least-falls, least-unique, level-least}
 use Rattle.net_laws.specs.Inverse.{sound-two}
 
 free-fewer : (c d : ℕ) (rs : List ℕ) → c ≤ d → Free d rs → Free c rs
@@ -46,8 +46,8 @@ module _ (m p : ℕ) (of : HasDegree p m) (q : ℕ) where
       back le free =
           net-free p (positive of) q j t le .1 (λ d ds len sum. free (rowsOf rows 1 ds) (share-reach rows j ds len) d (omega (arith, length-rowsOf rows 1 ds)))
 
-  -- ---- the least weight and the t-value tell each other
-  least-tValue : (j : ℕ) → Least rows m j (suc m - tValue m p q (suc j))
+  -- ---- the least weight and the t-value tell each other: w(s) = m + 1 - t(s)
+  pub least-tValue : (j : ℕ) → Least rows m j (suc m - tValue m p q (suc j))
   least-tValue j =
       let t = tValue m p q (suc j) in
       let S = tValue-smallest m p q (suc j) (positive of) in
@@ -67,6 +67,9 @@ module _ (m p : ℕ) (of : HasDegree p m) (q : ℕ) where
 
   pub tValue-first : tValue m p q 1 ≡ 0
   tValue-first = omega (arith, tValue-least 0 (suc m) (least-zero rows m), tValue-most 1)
+
+  pub tValue-grows : (j : ℕ) → tValue m p q (suc j) ≤ tValue m p q (suc (suc j))
+  tValue-grows j = omega (arith, least-falls rows m j _ _ (least-tValue j) (least-tValue (suc j)), tValue-most (suc j))
 
   -- ---- the search
   pub stop-one : StopBound m p q 1

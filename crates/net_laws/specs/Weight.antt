@@ -33,6 +33,11 @@ module _ (G : ℕ → ℕ → ℕ) (m : ℕ) where
       le : (W U : ℕ) → Least j W → Least j U → W ≤ U
       le W U a b = omega (arith, lt-of-not-le λ (l : suc U ≤ W). b .some (omega (arith, a .most)) (λ all x c e. a .lighter all x c (omega arith)))
 
+  -- rows of the coordinates 0 .. j are rows of 0 .. j + 1 too
+  pub least-falls : (j W U : ℕ) → Least j W → Least (suc j) U → U ≤ W
+  least-falls j W U a b =
+      omega (arith, lt-of-not-le λ (l : suc W ≤ U). a .some (omega (arith, b .most)) (λ all x c e. b .lighter all (leave x) c (omega arith)))
+
   pub least-zero : Least 0 (suc m)
   unfolding Free
   least-zero = record { most = omega arith; lighter = none; some = λ l all. absurd (omega arith) }

@@ -2,6 +2,7 @@
 -- q is x^e for some e below the period; e = 0 is q = 1, of which no power before x^(2^m - 1) is another; any other e is the first that gives q.
 -- Assumes nothing.
 use mathlib.Core.Path.{_≡_, refl, sym, _∙_}
+use mathlib.Core.Logic.{_≢_}
 use mathlib.Core.Bool.{Bool, true}
 use Prim.Native.Nat.{ℕ, zero, suc, _-_, _^_, _≤_, _<_}
 use native.Mathlib.Omega.{arith}
@@ -67,3 +68,13 @@ module _ (m p : ℕ) (positive : 1 ≤ m) (d : HasDegree p m) (t : primitive m p
           let one : q ≡ 1 = sym k ∙ rem-one p big in
           rw (one, step-one) (order .holds)
       go (suc e) l k = rw (step-unique q (suc e) (omega arith) l k) k
+
+  -- all but 1 are found
+  pub step-below : (q : ℕ) → 0 < q → q < 2 ^ m → q ≢ 1 → step m p q < period m
+  step-below q nonzero residue other =
+      let w = full-cycle m p positive d t q nonzero residue in
+      go (w .exponent) (w .below) (w .gives)
+    where
+      go : (e : ℕ) → e < period m → rem (2 ^ e) p ≡ q → step m p q < period m
+      go zero l k = absurd (other (sym k ∙ rem-one p big))
+      go (suc e) l k = omega (arith, step-unique q (suc e) (omega arith) l k)
