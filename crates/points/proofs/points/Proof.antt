@@ -33,15 +33,15 @@ sub-last c = omega (arith, c .leading-term .ensures, top-low (covered (c .before
 
 returns-2 : tie.Need-returns-2
 returns-2 c =
-    let at = c .before .before .before .before .before in
+    let behind = c .before .before .before .before .before in
     let told = c .before .before .enum-told .given in
-    answered-beyond _ _ _ _ _ (lawful at) (sym (c .before .before .before .before .check-pair .ensures) ∙ told .1) (omega (arith, c .before .leading-term .ensures))
+    answered-beyond _ _ _ _ _ (lawful behind) (sym (c .before .before .before .before .check-pair .ensures) ∙ told .1) (omega (arith, c .before .leading-term .ensures))
 
 write-requires : tie.Need-write-requires
 write-requires c κs =
-    let at = c .before .before .before .before .before .before .before in
+    let behind = c .before .before .before .before .before .before .before in
     let told = c .before .before .before .before .enum-told .given in
-    (covered at, (passed-well-formed _ _ _ (sym (c .before .before .before .before .before .before .check-pair .ensures) ∙ told .1), omega (arith, c .before .smaller .ensures)))
+    (covered behind, (passed-well-formed _ _ _ (sym (c .before .before .before .before .before .before .check-pair .ensures) ∙ told .1), omega (arith, c .before .smaller .ensures)))
 
 returns-3 : tie.Need-returns-3
 returns-3 c =
@@ -50,13 +50,13 @@ returns-3 c =
 
 returns-4 : tie.Need-returns-4
 returns-4 c =
-    let at = c .before .before .before .before .before .before .before .before .before .before in
+    let behind = c .before .before .before .before .before .before .before .before .before .before in
     let told = c .before .before .before .before .before .before .before .enum-told .given in
     let top = c .before .before .before .before .before .before .leading-term .ensures in
-    answered-written _ _ _ _ _ (lawful at) _ _ (sym (c .before .before .before .before .before .before .before .before .before .check-pair .ensures) ∙ told .1)
+    answered-written _ _ _ _ _ (lawful behind) _ _ (sym (c .before .before .before .before .before .before .before .before .before .check-pair .ensures) ∙ told .1)
     (omega (arith, top))
     (c .before .before .before .before .smaller .ensures
-    ∙ words-left _ _ _ (now (at .before .before .before .args .out)) top (omega (arith, top, top-low (covered at))) (c .before .before .before .before .before .if2 .left))
+    ∙ words-left _ _ _ (now (behind .before .before .before .args .out)) top (omega (arith, top, top-low (covered behind))) (c .before .before .before .before .before .if2 .left))
     (c .before .before .write .ensures)
 
 pub points-spec : {M : Type 1} → statement M
