@@ -13,13 +13,9 @@ use lib.Pow.{pow-mono}
 use lib.ListN.{length}
 use borrow.Author.Tests.{leb-true, ltb-true, eqb-true, lt-ltb, le-ltb, lt-leb, le-leb, eq-eqb, ne-eqb}
 use Rattle.definitions.specs.Number.{every}
-use Rattle.definitions.specs.Generator.{leastDegree, largestDegree, lawfulDegree}
+use Rattle.definitions.specs.Generator.{lawfulDegree}
 use Rattle.definitions.specs.Ranking.{lawfulTop}
-use Rattle.definitions.specs.Catalogue.{byteAt, numberAt, Entry, entryAt, bodySize, contentsSize, rowSize, rowForm, entryForm, entriesForm, catalogueForm}
-
--- As many entries as there are lawful degrees.
-abbrev pub mostEntries : ℕ
-mostEntries = suc largestDegree - leastDegree
+use Rattle.definitions.specs.Catalogue.{byteAt, numberAt, Entry, entryAt, bodySize, mostEntries, contentsSize, rowSize, rowForm, entryForm, entriesForm, catalogueForm}
 
 -- ---- numbers
 

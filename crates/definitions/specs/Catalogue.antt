@@ -17,6 +17,10 @@ numberAt (suc w) s i = numberAt w s i * 256 + byteAt s (i + w)
 
 -- ---- the form
 
+-- There are at most as many entries as lawful degrees: n is 0 to 15.
+abbrev pub mostEntries : ℕ
+mostEntries = suc largestDegree - leastDegree
+
 -- The first body lies behind the first byte and the n entries of 8 bytes.
 abbrev pub contentsSize : ℕ → ℕ
 contentsSize n = 1 + 8 * n
@@ -33,8 +37,7 @@ pub record Entry : Type 0 where
 
 unfoldable pub entryAt : List ℕ → ℕ → Entry
 entryAt s i =
-    let at : ℕ = contentsSize i in
-    record { degree = byteAt s at; top = byteAt s (at + 1); rows = numberAt 2 s (at + 2); offset = numberAt 4 s (at + 4) }
+    record { degree = byteAt s (contentsSize i); top = byteAt s (contentsSize i + 1); rows = numberAt 2 s (contentsSize i + 2); offset = numberAt 4 s (contentsSize i + 4) }
 
 abbrev pub bodySize : Entry → ℕ
 bodySize e = e .rows * rowSize (e .top)
@@ -61,11 +64,10 @@ entriesForm s zero i last at = eqb at (length s)
 entriesForm s (suc k) i last at =
     entryForm s (entryAt s i) last at && entriesForm s k (suc i) (entryAt s i .degree) (at + bodySize (entryAt s i))
 
--- There are at most as many entries as lawful degrees.
 unfoldable pub catalogueForm : List ℕ → Bool
 catalogueForm s =
     leb 1 (length s)
-    && (leb (byteAt s 0) (suc largestDegree - leastDegree)
+    && (leb (byteAt s 0) mostEntries
     && (leb (contentsSize (byteAt s 0)) (length s) && entriesForm s (byteAt s 0) 0 0 (contentsSize (byteAt s 0))))
 
 -- ---- open and look up
@@ -112,8 +114,7 @@ tAt top body place s = cond (leb s top) (byteAt body (place + 3 + s)) 0
 
 unfoldable pub rowAt : ℕ → ℕ → List ℕ → ℕ → Row
 rowAt m top body place =
-    let t : ℕ → ℕ = tAt top body place in
-    record { p = 2 ^ m + numberAt 2 body place; q = numberAt 2 body (place + 2); step = numberAt 2 body (place + 4); t3 = t 3; t4 = t 4; t5 = t 5; t6 = t 6; t7 = t 7; t8 = t 8 }
+    record { p = 2 ^ m + numberAt 2 body place; q = numberAt 2 body (place + 2); step = numberAt 2 body (place + 4); t3 = tAt top body place 3; t4 = tAt top body place 4; t5 = tAt top body place 5; t6 = tAt top body place 6; t7 = tAt top body place 7; t8 = tAt top body place 8 }
 
 -- The next row, p with its leading term, or the end.
 unfoldable pub nextRow : ℕ → ℕ → List ℕ → ℕ → NextRow

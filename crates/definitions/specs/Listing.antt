@@ -37,9 +37,13 @@ unfoldable pub wordsOf : List ℕ → List (List ℕ)
 wordsOf [] = [] ∷ []
 wordsOf (b ∷ s) = elim (eqb b space) [ true ↦ [] ∷ wordsOf s | false ↦ extend b (wordsOf s) ]
 
--- A word is a number where it has 1 to 9 bytes, each a decimal digit; 48 is the digit 0.
+-- A decimal digit, 0 being 48.
+abbrev pub isDigit : ℕ → Bool
+isDigit b = leb 48 b && leb b 57
+
+-- A word is a number where it has 1 to 9 bytes, each a decimal digit.
 unfoldable pub isNumber : List ℕ → Bool
-isNumber w = leb 1 (length w) && (leb (length w) 9 && all (λ (b : ℕ). leb 48 b && leb b 57) w)
+isNumber w = leb 1 (length w) && (leb (length w) 9 && all isDigit w)
 
 -- The number with the digits w behind those of n.
 unfoldable pub decimalFrom : ℕ → List ℕ → ℕ
@@ -55,9 +59,7 @@ asked (m ∷ top ∷ size ∷ []) = Asked m top size
 asked (m ∷ top ∷ size ∷ n ∷ l) = Unreadable
 
 unfoldable pub readLine : List ℕ → Line
-readLine s =
-    let ws : List (List ℕ) = wordsOf (lineOf s) in
-    elim (all isNumber ws) [ true ↦ asked (map (decimalFrom 0) ws) | false ↦ Unreadable ]
+readLine s = elim (all isNumber (wordsOf (lineOf s))) [ true ↦ asked (map (decimalFrom 0) (wordsOf (lineOf s))) | false ↦ Unreadable ]
 
 -- ---- the text
 

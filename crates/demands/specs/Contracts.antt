@@ -9,6 +9,9 @@ use mathlib.Core.List.{List, [], _∷_, _++_}
 use Prim.Native.Nat.{ℕ, suc, _+_, _≤_}
 use lib.ListN.{length, drop}
 use denote.Ref.{now}
+use base.Logic.{ent}
+use contract.Monad.{fact, fact-mono}
+use borrow.Fn.World.{World, ArgsD}
 use Rattle.definitions.specs.Number.{join}
 use Rattle.definitions.specs.Answers.{situation}
 use Rattle.definitions.specs.Generator.{lawfulDegree, period}
@@ -39,6 +42,7 @@ use Rattle.points.proofs.points.Reads as points
 use Rattle.catalogue.proofs.«open».Reads as opened
 use Rattle.catalogue.proofs.lookup.Reads as lookup
 use Rattle.catalogue.proofs.body.Reads as body
+use Rattle.catalogue.proofs.reader as reader
 
 -- ---- 1: each refusal exactly in its situation, and no slice changed by a refusing call
 
@@ -72,6 +76,15 @@ lookup-exact κs a r e h = rw h (looking-exact (now (a .0)) (a .1 .0))
 -- The part is empty where the lookup of the same file and degree is refused.
 pub body-empty : (κs : _) (a : _) (r : _) (e : _) → body.Post κs a r e → (n : Refusal) → lookupNumbers (now (a .0)) (a .1 .0) ≡ NoBody n → now r ≡ []
 body-empty κs a r e h n d = h ∙ looking-empty (now (a .0)) (a .1 .0) n d .0
+
+-- A reader opened there has that empty part and T = 0, so it is at the end. The toolchain gives no `Post` for a struct that holds a slice: this is
+-- the clause itself, in any model of the logic.
+pub reader-empty : (w : World) (κs : _) (a : ArgsD reader.signature κs) (r : _) (e : _) (n : Refusal) → lookupNumbers (now (a .0)) (a .1 .0) ≡ NoBody n
+    → ent (w .𝓤) (reader.clauses (w .𝓤) (w .H) (w .𝓖 .A) (w .𝓜 .mem) (w .𝓡 .run) κs a .ensures tt r e)
+    (fact (w .𝓤) ((now (r .body) ≡ []) × (r .top ≡ 0)))
+reader-empty w κs a r e n d =
+    let empty = looking-empty (now (a .0)) (a .1 .0) n d in
+    fact-mono (w .𝓤) _ _ (λ x. (x .0 ∙ empty .0, x .2 ∙ empty .1))
 
 -- ---- 2: accepted exactly when, the smallest t, the full period
 

@@ -11,10 +11,10 @@ use lib.ListN.{length, take, length-take}
 use lib.Seq.{take-all}
 use borrow.Author.Tests.{leb-true, leb-false}
 use Rattle.definitions.specs.Number.{all}
-use Rattle.definitions.specs.Listing.{space, newline, lineOf, wordsOf, isNumber, asked, decimalFrom, readLine}
+use Rattle.definitions.specs.Listing.{space, newline, lineOf, wordsOf, isDigit, isNumber, asked, decimalFrom, readLine}
 use Rattle.definitions.specs.declared.Line.the-variants.{Unreadable}
 use Rattle.listing.specs.Line.{upTo, askedFrom, askedWith, read-line}
-use Rattle.listing.specs.Words.{isDigit, otherWords, words-first}
+use Rattle.listing.specs.Words.{otherWords, words-first}
 
 -- The words and a byte behind each.
 wordBytes : List (List ℕ) → ℕ

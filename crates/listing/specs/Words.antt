@@ -2,18 +2,18 @@
 -- and a word by its next byte.
 -- Assumes nothing.
 use mathlib.Core.Path.{_≡_, refl, sym, ap, _∙_}
-use mathlib.Core.Bool.{Bool, true, false, _&&_}
+use mathlib.Core.Bool.{Bool, true, false}
 use mathlib.Core.List.{List, [], _∷_, _++_, map, append-nil}
 use Prim.Native.Nat.{ℕ, suc, _+_, _-_, _*_, _^_, _≤_, _<_}
 use native.Mathlib.Nat.{pow-suc, pow-le-pow-right, lt-of-lt-of-le}
 use native.Mathlib.Numerals.{add-one}
 use native.Mathlib.Omega.{arith}
-use lib.Dec.{eqb, leb}
+use lib.Dec.{eqb}
 use lib.ListN.{length, drop, getD, length-drop}
 use lib.Seq.{append-snoc, slice, slice-cons, drop-drop}
 use borrow.Author.Tests.{le-leb, lt-leb}
 use Rattle.definitions.specs.Number.{all}
-use Rattle.definitions.specs.Listing.{space, wordsOf, isNumber, decimalFrom, asked}
+use Rattle.definitions.specs.Listing.{space, wordsOf, isDigit, isNumber, decimalFrom, asked}
 use Rattle.definitions.specs.declared.Line.{Line}
 use Rattle.definitions.specs.declared.Line.the-variants.{Unreadable}
 use Rattle.listing.specs.declared.input.Word.{Word}
@@ -103,10 +103,6 @@ asked-full m top size l = rw (words-first l) (go (all isNumber (upTo space l ∷
     go : (t : Bool) → all isNumber (upTo space l ∷ otherWords l) ≡ t → askedWith (m ∷ top ∷ size ∷ []) (upTo space l ∷ otherWords l) ≡ Unreadable
     go true k = rw (k, askedWith)
     go false k = rw (k, askedWith)
-
--- A decimal digit: 48 is 0 and 57 is 9.
-abbrev pub isDigit : ℕ → Bool
-isDigit b = leb 48 b && leb b 57
 
 -- The number that the digits w make behind those of n, if they are digits.
 unfoldable pub digitsFrom : ℕ → List ℕ → Word
