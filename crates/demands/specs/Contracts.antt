@@ -13,7 +13,7 @@ use base.Logic.{ent}
 use contract.Monad.{fact, fact-mono}
 use borrow.Fn.World.{World, ArgsD}
 use Rattle.definitions.specs.Number.{join}
-use Rattle.definitions.specs.Answers.{situation}
+use Rattle.definitions.specs.Answers.{situation, judgementValues, uniformityValues, pageValues, pointsValues, openingValues, lookupValues}
 use Rattle.definitions.specs.Generator.{lawfulDegree, period}
 use Rattle.definitions.specs.Points.{words}
 use Rattle.definitions.specs.Ranking.{lawfulTop, rowWidth, ranked}
@@ -32,7 +32,7 @@ use Rattle.definitions.specs.declared.Position.the-variants.{Start}
 use Rattle.net_laws.specs.Smallest.{SmallestNet}
 use Rattle.page_laws.specs.Rows.{rowsOf}
 use Rattle.ranking_laws.specs.Session.{asks, afterLast, Session, closes, goes-on}
-use Rattle.demands.specs.Demand1.{Exact, judgementNumber, uniformityNumber, pageNumber, pointsNumber, openingNumber, lookupNumber, opening-exact, looking-empty, judging-exact, measuring-exact, paging-exact, pointing-exact, looking-exact, paging-keeps, pointing-keeps}
+use Rattle.demands.specs.Demand1.{Exact, numberOf, opening-exact, looking-empty, judging-exact, measuring-exact, paging-exact, pointing-exact, looking-exact, paging-keeps, pointing-keeps}
 use Rattle.demands.specs.Demand2.{Conditions, accepted-exactly, uniformity-smallest, period-written}
 use Rattle.demands.specs.Demand3.{pages-whole}
 use Rattle.generator.proofs.judge.Reads as judge
@@ -46,31 +46,31 @@ use Rattle.catalogue.proofs.reader as reader
 
 -- ---- 1: each refusal exactly in its situation, and no slice changed by a refusing call
 
-pub judge-exact : (κs : _) (a : _) (r : _) (e : _) → judge.Post κs a r e → Exact (judging (a .0) (a .1 .0) (a .1 .1 .0)) (judgementNumber r)
+pub judge-exact : (κs : _) (a : _) (r : _) (e : _) → judge.Post κs a r e → Exact (judging (a .0) (a .1 .0) (a .1 .1 .0)) (numberOf (judgementValues r))
 judge-exact κs a r e h = rw h (judging-exact (a .0) (a .1 .0) (a .1 .1 .0))
 
 pub t-value-exact : (κs : _) (a : _) (r : _) (e : _) → t-value.Post κs a r e
-    → Exact (measuring (a .0) (a .1 .0) (a .1 .1 .0) (a .1 .1 .1 .0)) (uniformityNumber r)
+    → Exact (measuring (a .0) (a .1 .0) (a .1 .1 .0) (a .1 .1 .1 .0)) (numberOf (uniformityValues r))
 t-value-exact κs a r e h = rw h (measuring-exact (a .0) (a .1 .0) (a .1 .1 .0) (a .1 .1 .1 .0))
 
-pub page-exact : (κs : _) (a : _) (r : _) (e : _) → page.Post κs a r e → Exact (paging (a .0) (now (a .1 .0))) (pageNumber r)
+pub page-exact : (κs : _) (a : _) (r : _) (e : _) → page.Post κs a r e → Exact (paging (a .0) (now (a .1 .0))) (numberOf (pageValues r))
 page-exact κs a r e h = rw (h .0) (paging-exact (a .0) (now (a .1 .0)))
 
 pub page-keeps : (κs : _) (a : _) (r : _) (e : _) → page.Post κs a r e → (n : Refusal) → r ≡ NoPage n → now (e .1 .0) ≡ now (a .1 .0)
 page-keeps κs a r e h n d = h .1 ∙ paging-keeps (a .0) (now (a .1 .0)) n (sym (h .0) ∙ d)
 
 pub points-exact : (κs : _) (a : _) (r : _) (e : _) → points.Post κs a r e
-    → Exact (pointing (a .0) (a .1 .0) (a .1 .1 .0) (a .1 .1 .1 .0)) (pointsNumber r)
+    → Exact (pointing (a .0) (a .1 .0) (a .1 .1 .0) (a .1 .1 .1 .0)) (numberOf (pointsValues r))
 points-exact κs a r e h = rw (h .0) (pointing-exact (a .0) (a .1 .0) (a .1 .1 .0) (a .1 .1 .1 .0) (now (a .1 .1 .1 .1 .0)))
 
 pub points-keep : (κs : _) (a : _) (r : _) (e : _) → points.Post κs a r e → (n : Refusal) → r ≡ NotWritten n → now (e .1 .1 .1 .1 .0) ≡ now (a .1 .1 .1 .1 .0)
 points-keep κs a r e h n d = h .1 ∙ pointing-keeps (a .0) (a .1 .0) (a .1 .1 .0) (a .1 .1 .1 .0) (now (a .1 .1 .1 .1 .0)) n (sym (h .0) ∙ d)
 
 pub open-exact : (κs : _) (a : _) (r : _) (e : _) → opened.Post κs a r e
-    → Exact (situation (not (catalogueForm (now (a .0)))) IllFormedCatalogue ∷ []) (openingNumber r)
+    → Exact (situation (not (catalogueForm (now (a .0)))) IllFormedCatalogue ∷ []) (numberOf (openingValues r))
 open-exact κs a r e h = rw h (opening-exact (now (a .0)))
 
-pub lookup-exact : (κs : _) (a : _) (r : _) (e : _) → lookup.Post κs a r e → Exact (looking (now (a .0)) (a .1 .0)) (lookupNumber r)
+pub lookup-exact : (κs : _) (a : _) (r : _) (e : _) → lookup.Post κs a r e → Exact (looking (now (a .0)) (a .1 .0)) (numberOf (lookupValues r))
 lookup-exact κs a r e h = rw h (looking-exact (now (a .0)) (a .1 .0))
 
 -- The part is empty where the lookup of the same file and degree is refused.

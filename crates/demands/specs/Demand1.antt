@@ -8,8 +8,8 @@ use mathlib.Core.List.{List, [], _∷_, map}
 use Prim.Native.Nat.{ℕ, _-_, _<_}
 use native.Mathlib.Omega.{arith}
 use lib.Dec.{eqb, ltb}
-use lib.ListN.{length}
-use Rattle.definitions.specs.Answers.{Situation, refusalNumber, situation}
+use lib.ListN.{length, getD}
+use Rattle.definitions.specs.Answers.{Situation, situation, judgementValues, uniformityValues, pageValues, pointsValues, openingValues, lookupValues}
 use Rattle.definitions.specs.Generator.{lawfulDegree, wellFormed, period, primitive, linearQuotients, coprimeStep, step}
 use Rattle.definitions.specs.Net.{tValue}
 use Rattle.definitions.specs.Ranking.{lawfulTop, lawfulDimension, rowWidth}
@@ -35,30 +35,9 @@ use Rattle.definitions.specs.declared.Lookup.{Lookup}
 use Rattle.definitions.specs.declared.Lookup.the-variants.{Body, NoBody}
 use Rattle.demands.specs.Situations.{applies, numbersOf, ascend, given, Lowest, unless-map, given-exactly, given-none}
 
--- The number of an answer: that of its refusal, 0 where it has none.
-abbrev pub judgementNumber : Judgement → ℕ
-judgementNumber (Accepted s) = 0
-judgementNumber (Rejected r) = refusalNumber r
-
-abbrev pub uniformityNumber : Uniformity → ℕ
-uniformityNumber (Value t) = 0
-uniformityNumber (Undefined r) = refusalNumber r
-
-abbrev pub pageNumber : PageAnswer → ℕ
-pageNumber (Page n further) = 0
-pageNumber (NoPage r) = refusalNumber r
-
-abbrev pub pointsNumber : PointsAnswer → ℕ
-pointsNumber (Written n) = 0
-pointsNumber (NotWritten r) = refusalNumber r
-
-abbrev pub openingNumber : Opening → ℕ
-openingNumber (Entries n) = 0
-openingNumber (Closed r) = refusalNumber r
-
-abbrev pub lookupNumber : Lookup → ℕ
-lookupNumber (Body top rows) = 0
-lookupNumber (NoBody r) = refusalNumber r
+-- The number of an answer, by the values that it holds: that of its refusal, 0 where it has none.
+abbrev pub numberOf : List ℕ → ℕ
+numberOf values = getD values 0 0
 
 -- An answer's number follows the situations: n is given exactly in its situation, 0 exactly where none applies, and only listed numbers are given.
 pub record Exact (l : List Situation) (number : ℕ) : Type 0 where
@@ -78,9 +57,9 @@ pub judging-uses : (m p q : ℕ) → numbersOf (judging m p q) ≡ 1 ∷ 3 ∷ 4
 unfolding judging pairSituations
 judging-uses m p q = refl
 
-pub judging-exact : (m p q : ℕ) → Exact (judging m p q) (judgementNumber (judgement m p q))
+pub judging-exact : (m p q : ℕ) → Exact (judging m p q) (numberOf (judgementValues (judgement m p q)))
 unfolding judging pairSituations judgement given
-judging-exact m p q = exact (judging m p q) refl _ (unless-map judgementNumber (judging m p q) Rejected (Accepted (step m p q)))
+judging-exact m p q = exact (judging m p q) refl _ (unless-map (λ (r : Judgement). numberOf (judgementValues r)) (judging m p q) Rejected (Accepted (step m p q)))
 
 pub judging-situations : (m p q : ℕ) → map (applies (judging m p q)) (1 ∷ 3 ∷ 4 ∷ 5 ∷ 6 ∷ [])
     ≡ not (lawfulDegree m) ∷ not (wellFormed m p q) ∷ not (primitive m p) ∷ not (linearQuotients p q) ∷ not (coprimeStep m p q) ∷ []
@@ -93,9 +72,9 @@ pub measuring-uses : (m p q s : ℕ) → numbersOf (measuring m p q s) ≡ 1 ∷
 unfolding measuring
 measuring-uses m p q s = refl
 
-pub measuring-exact : (m p q s : ℕ) → Exact (measuring m p q s) (uniformityNumber (uniformity m p q s))
+pub measuring-exact : (m p q s : ℕ) → Exact (measuring m p q s) (numberOf (uniformityValues (uniformity m p q s)))
 unfolding measuring uniformity given
-measuring-exact m p q s = exact (measuring m p q s) refl _ (unless-map uniformityNumber (measuring m p q s) Undefined (Value (tValue m p q s)))
+measuring-exact m p q s = exact (measuring m p q s) refl _ (unless-map (λ (r : Uniformity). numberOf (uniformityValues r)) (measuring m p q s) Undefined (Value (tValue m p q s)))
 
 pub measuring-situations : (m p q s : ℕ) → map (applies (measuring m p q s)) (1 ∷ 2 ∷ 3 ∷ [])
     ≡ not (lawfulDegree m) ∷ not (lawfulDimension s) ∷ not (wellFormed m p q) ∷ []
@@ -127,9 +106,9 @@ paging-ascends r s = go (r .position)
     go Start = refl
     go (After p q) = refl
 
-pub paging-exact : (r : PageRequest) (s : List ℕ) → Exact (paging r s) (pageNumber (pageAnswer r s))
+pub paging-exact : (r : PageRequest) (s : List ℕ) → Exact (paging r s) (numberOf (pageValues (pageAnswer r s)))
 unfolding pageAnswer given
-paging-exact r s = exact (paging r s) (paging-ascends r s) _ (unless-map pageNumber (paging r s) NoPage (Page (length (pageRows r s)) (furtherRow r s)))
+paging-exact r s = exact (paging r s) (paging-ascends r s) _ (unless-map (λ (r : PageAnswer). numberOf (pageValues r)) (paging r s) NoPage (Page (length (pageRows r s)) (furtherRow r s)))
 
 pub paging-first-situations : (m top : ℕ) (s : List ℕ) → map (applies (paging (asksFirst m top) s)) (1 ∷ 2 ∷ 7 ∷ [])
     ≡ not (lawfulDegree m) ∷ not (lawfulTop top) ∷ ltb (length s) (rowWidth top) ∷ []
@@ -151,9 +130,9 @@ pub pointing-uses : (m p q i : ℕ) → numbersOf (pointing m p q i) ≡ 1 ∷ 3
 unfolding pointing judging pairSituations
 pointing-uses m p q i = refl
 
-pub pointing-exact : (m p q i : ℕ) (s : List ℕ) → Exact (pointing m p q i) (pointsNumber (pointsAnswer m p q i s))
+pub pointing-exact : (m p q i : ℕ) (s : List ℕ) → Exact (pointing m p q i) (numberOf (pointsValues (pointsAnswer m p q i s)))
 unfolding pointing judging pairSituations pointsAnswer given
-pointing-exact m p q i s = exact (pointing m p q i) refl _ (unless-map pointsNumber (pointing m p q i) NotWritten (Written (wordCount m i s)))
+pointing-exact m p q i s = exact (pointing m p q i) refl _ (unless-map (λ (r : PointsAnswer). numberOf (pointsValues r)) (pointing m p q i) NotWritten (Written (wordCount m i s)))
 
 pub pointing-situations : (m p q i : ℕ) → map (applies (pointing m p q i)) (1 ∷ 3 ∷ 4 ∷ 5 ∷ 6 ∷ 8 ∷ [])
     ≡ not (lawfulDegree m) ∷ not (wellFormed m p q) ∷ not (primitive m p) ∷ not (linearQuotients p q) ∷ not (coprimeStep m p q)
@@ -166,19 +145,19 @@ pointing-keeps = refused-points-keep
 
 -- ---- the catalogue
 
-pub opening-exact : (s : List ℕ) → Exact (situation (not (catalogueForm s)) IllFormedCatalogue ∷ []) (openingNumber (opening s))
+pub opening-exact : (s : List ℕ) → Exact (situation (not (catalogueForm s)) IllFormedCatalogue ∷ []) (numberOf (openingValues (opening s)))
 unfolding opening given
 opening-exact s = exact (situation (not (catalogueForm s)) IllFormedCatalogue ∷ []) refl _
-    (unless-map openingNumber (situation (not (catalogueForm s)) IllFormedCatalogue ∷ []) Closed (Entries (byteAt s 0)))
+    (unless-map (λ (r : Opening). numberOf (openingValues r)) (situation (not (catalogueForm s)) IllFormedCatalogue ∷ []) Closed (Entries (byteAt s 0)))
 
 pub looking-uses : (s : List ℕ) (m : ℕ) → numbersOf (looking s m) ≡ 1 ∷ 9 ∷ 10 ∷ []
 unfolding looking
 looking-uses s m = refl
 
-pub looking-exact : (s : List ℕ) (m : ℕ) → Exact (looking s m) (lookupNumber (lookupNumbers s m))
+pub looking-exact : (s : List ℕ) (m : ℕ) → Exact (looking s m) (numberOf (lookupValues (lookupNumbers s m)))
 unfolding looking lookupNumbers given
 looking-exact s m =
-    exact (looking s m) refl _ (unless-map lookupNumber (looking s m) NoBody (Body (entryAt s (entryOf s m) .top) (entryAt s (entryOf s m) .rows)))
+    exact (looking s m) refl _ (unless-map (λ (r : Lookup). numberOf (lookupValues r)) (looking s m) NoBody (Body (entryAt s (entryOf s m) .top) (entryAt s (entryOf s m) .rows)))
 
 pub looking-situations : (s : List ℕ) (m : ℕ) → map (applies (looking s m)) (1 ∷ 9 ∷ 10 ∷ [])
     ≡ not (lawfulDegree m) ∷ not (catalogueForm s) ∷ eqb (entryOf s m) (byteAt s 0) ∷ []

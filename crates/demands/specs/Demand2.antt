@@ -13,12 +13,14 @@ use lib.Pow.{pow-pos}
 use borrow.Author.Tests.{leb-true, le-leb, le-ltb}
 use Rattle.definitions.specs.Number.{bit, count, gcd}
 use Rattle.definitions.specs.Generator.{leastDegree, largestDegree, lawfulDegree, wellFormed, period, primitive, linearQuotients, coprimeStep, step, accepted}
-use Rattle.definitions.specs.Answers.{unless}
+use Rattle.definitions.specs.Answers.{unless, judgementValues, uniformityValues}
 use Rattle.definitions.specs.Net.{tValue}
 use Rattle.definitions.specs.Points.{words}
 use Rattle.definitions.specs.Calls.{pairSituations, judging, judgement, measuring, uniformity, pointing, wordCount, pointsSlice}
 use Rattle.definitions.specs.Ranking.{lawfulDimension}
+use Rattle.definitions.specs.declared.Uniformity.{Uniformity}
 use Rattle.definitions.specs.declared.Uniformity.the-variants.{Value}
+use Rattle.definitions.specs.declared.Judgement.{Judgement}
 use Rattle.definitions.specs.declared.Judgement.the-variants.{Accepted}
 use Rattle.fraction_laws.specs.WellFormed.{WellFormed, wellFormed-is}
 use Rattle.fraction_laws.specs.Quotients.{LinearQuotients, linearQuotients-is}
@@ -30,7 +32,7 @@ use Rattle.order_laws.specs.Accepted.{IsStep, accepted-is, coprime-step, FullPe
 use Rattle.net_laws.specs.Smallest.{SmallestNet, tValue-smallest}
 use Rattle.block_laws.specs.Blocks.{point, block, origin, points-are-blocks}
 use Rattle.demands.specs.Situations.{applies}
-use Rattle.demands.specs.Demand1.{judgementNumber, uniformityNumber, judging-exact, measuring-exact}
+use Rattle.demands.specs.Demand1.{numberOf, judging-exact, measuring-exact}
 
 -- What is asked of a pair of degree m and its step σ.
 pub record Conditions (m p q σ : ℕ) : Type 0 where
@@ -61,7 +63,7 @@ tests-judged m p q t = rw (t .lawful, unless, t .formed, t .primitive-p, t .line
 judged-tests : (m p q σ : ℕ) → judgement m p q ≡ Accepted σ → Tests m p q
 unfolding judging pairSituations applies
 judged-tests m p q σ e =
-    let none : (n : ℕ) → applies (judging m p q) n ≡ false = judging-exact m p q .none .0 (ap judgementNumber e) in
+    let none : (n : ℕ) → applies (judging m p q) n ≡ false = judging-exact m p q .none .0 (ap (λ (r : Judgement). numberOf (judgementValues r)) e) in
     record {
       lawful = not-not (lawfulDegree m) (none 1);
       formed = not-not (wellFormed m p q) (none 3);
@@ -131,7 +133,7 @@ t-value-smallest m p q s f = tValue-smallest m p q s (omega (arith, wellFormed-i
 pub uniformity-smallest : (m p q s t : ℕ) → uniformity m p q s ≡ Value t → SmallestNet m p q s t
 unfolding uniformity unless measuring applies
 uniformity-smallest m p q s t e =
-    let none : (n : ℕ) → applies (measuring m p q s) n ≡ false = measuring-exact m p q s .none .0 (ap uniformityNumber e) in
+    let none : (n : ℕ) → applies (measuring m p q s) n ≡ false = measuring-exact m p q s .none .0 (ap (λ (r : Uniformity). numberOf (uniformityValues r)) e) in
     let formed = not-not (wellFormed m p q) (none 3) in
     let given : uniformity m p q s ≡ Value (tValue m p q s) = rw (not-not (lawfulDegree m) (none 1), unless, not-not (lawfulDimension s) (none 2), formed) in
     subst (SmallestNet m p q s) (same (tValue m p q s) t (sym given ∙ e)) (t-value-smallest m p q s formed)
