@@ -8,6 +8,7 @@ pub use Prim.Native.Char.{code}
 pub use lib.Dec.{eqb, leb, ltb}
 pub use lib.ListN.{length, take, drop, getD, replicate}
 pub use lib.Bits.{bitXor}
+pub use Rattle.definitions.specs.declared.Selection.{Selection}
 pub use Rattle.definitions.specs.declared.Position.{Position}
 pub use Rattle.definitions.specs.declared.Position.the-variants.{Start, After}
 pub use Rattle.definitions.specs.declared.PageRequest.{PageRequest}

@@ -1,12 +1,13 @@
 -- Judging, a single t-value, pages and points: what each call answers and what each lent slice holds afterwards, for every input.
 -- Assumes nothing.
-use Rattle.definitions.specs.Base.{Bool, not, List, [], _∷_, _++_, ℕ, _-_, _/_, min, ltb, length, drop, Refusal, WrongDegree, WrongDimension, IllFormedPair, NotPrimitive, QuotientNotLinear, StepNotCoprime, ShortSlice, BeyondPeriod, Position, Start, After, PageRequest, Judgement, Accepted, Rejected, Uniformity, Value, Undefined, PageAnswer, Page, NoPage, PointsAnswer, Written, NotWritten}
+use Rattle.definitions.specs.Base.{Bool, not, List, [], _∷_, _++_, ℕ, _-_, _/_, min, ltb, length, Refusal, WrongDegree, WrongDimension, IllFormedPair, NotPrimitive, QuotientNotLinear, StepNotCoprime, ShortSlice, BeyondPeriod, Selection, Position, Start, After, PageRequest, Judgement, Accepted, Rejected, Uniformity, Value, Undefined, PageAnswer, Page, NoPage, PointsAnswer, Written, NotWritten}
+use Rattle.definitions.specs.Number.{join, over}
 use Rattle.definitions.specs.Answers.{Situation, situation, unless}
 use Rattle.definitions.specs.Generator.{lawfulDegree, wellFormed, period, primitive, linearQuotients, coprimeStep, step}
 use Rattle.definitions.specs.Points.{words}
 use Rattle.definitions.specs.Net.{tValue}
-use Rattle.definitions.specs.Pages.{page, more, laid}
-use Rattle.definitions.specs.Ranking.{lawfulTop, lawfulDimension, rowWidth, rowKey, ranked, placeOf}
+use Rattle.definitions.specs.Pages.{page, more}
+use Rattle.definitions.specs.Ranking.{lawfulTop, lawfulDimension, rowWidth, rowKey, ranked, cutOf}
 
 -- The situations that concern a pair, of a lawful degree: 3 to 6.
 unfoldable pub pairSituations : ℕ → ℕ → ℕ → List Situation
@@ -35,6 +36,13 @@ measuring m p q s =
 unfoldable pub uniformity : ℕ → ℕ → ℕ → ℕ → Uniformity
 uniformity m p q s = unless (measuring m p q s) Undefined (Value (tValue m p q s))
 
+-- The list that a page request means, and the request for a page of a list.
+abbrev pub selectionOf : PageRequest → Selection
+selectionOf r = record { degree = r .degree; top = r .top }
+
+abbrev pub pageRequest : Selection → Position → PageRequest
+pageRequest l at = record { degree = l .degree; top = l .top; position = at }
+
 -- A page: 1 and 2, then for a position after a pair 3 to 6, then 7.
 unfoldable pub positionSituations : ℕ → Position → List Situation
 positionSituations m Start = []
@@ -45,25 +53,25 @@ paging r s =
     situation (not (lawfulDegree (r .degree))) WrongDegree
     ∷ situation (not (lawfulTop (r .top))) WrongDimension
     ∷ positionSituations (r .degree) (r .position)
-    ++ situation (ltb (length s) (rowWidth (r .top))) ShortSlice
+    ++ situation (ltb (length s) (rowWidth (selectionOf r))) ShortSlice
     ∷ []
 
 -- How many rows fit a slice.
 abbrev pub capacity : PageRequest → List ℕ → ℕ
-capacity r s = length s / rowWidth (r .top)
+capacity r s = length s / rowWidth (selectionOf r)
 
 -- The rows of a page: those of the ranked list above the position, as many as fit.
 unfoldable pub pageRows : PageRequest → List ℕ → List (List ℕ)
-pageRows r s = page rowKey (placeOf (r .degree) (r .top) (r .position)) (capacity r s) (ranked (r .degree) (r .top))
+pageRows r s = page rowKey (cutOf (selectionOf r) (r .position)) (capacity r s) (ranked (selectionOf r))
 
 unfoldable pub furtherRow : PageRequest → List ℕ → Bool
-furtherRow r s = more rowKey (placeOf (r .degree) (r .top) (r .position)) (capacity r s) (ranked (r .degree) (r .top))
+furtherRow r s = more rowKey (cutOf (selectionOf r) (r .position)) (capacity r s) (ranked (selectionOf r))
 
 unfoldable pub pageAnswer : PageRequest → List ℕ → PageAnswer
 pageAnswer r s = unless (paging r s) NoPage (Page (length (pageRows r s)) (furtherRow r s))
 
 unfoldable pub pageSlice : PageRequest → List ℕ → List ℕ
-pageSlice r s = unless (paging r s) (λ (n : Refusal). s) (laid (rowWidth (r .top)) (pageRows r s) s)
+pageSlice r s = unless (paging r s) (λ (n : Refusal). s) (over 0 (join (pageRows r s)) s)
 
 -- Points: 1, 3 to 6, 8; else words first, first + 1, .. until the slice or the period ends. The last index is 2^m - 2.
 unfoldable pub pointing : ℕ → ℕ → ℕ → ℕ → List Situation
@@ -77,4 +85,4 @@ pointsAnswer m p q first s = unless (pointing m p q first) NotWritten (Written (
 
 unfoldable pub pointsSlice : ℕ → ℕ → ℕ → ℕ → List ℕ → List ℕ
 pointsSlice m p q first s =
-    unless (pointing m p q first) (λ (n : Refusal). s) (words p q first (wordCount m first s) ++ drop (wordCount m first s) s)
+    unless (pointing m p q first) (λ (n : Refusal). s) (over 0 (words p q first (wordCount m first s)) s)

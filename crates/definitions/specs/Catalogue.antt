@@ -1,6 +1,6 @@
 -- The catalogue: its form, opening it, looking a degree up, reading a body row by row. Assumes nothing.
-use Rattle.definitions.specs.Base.{Bool, cond, not, _&&_, List, [], _∷_, ℕ, zero, suc, _+_, _-_, _*_, _%_, _^_, eqb, leb, ltb, length, take, drop, getD, Refusal, WrongDegree, IllFormedCatalogue, DegreeMissing, Opening, Entries, Closed, Lookup, Body, NoBody, Row, NextRow, Found, End}
-use Rattle.definitions.specs.Number.{first, every}
+use Rattle.definitions.specs.Base.{Bool, true, false, cond, not, _&&_, List, [], _∷_, ℕ, zero, suc, _+_, _-_, _*_, _%_, _^_, eqb, leb, ltb, length, take, drop, getD, Refusal, WrongDegree, IllFormedCatalogue, DegreeMissing, Opening, Entries, Closed, Lookup, Body, NoBody, Row, NextRow, Found, End}
+use Rattle.definitions.specs.Number.{every}
 use Rattle.definitions.specs.Answers.{Situation, situation, unless}
 use Rattle.definitions.specs.Generator.{leastDegree, largestDegree, lawfulDegree}
 use Rattle.definitions.specs.Ranking.{leastTop, lawfulTop}
@@ -15,19 +15,37 @@ unfoldable pub numberAt : ℕ → List ℕ → ℕ → ℕ
 numberAt zero s i = 0
 numberAt (suc w) s i = numberAt w s i * 256 + byteAt s (i + w)
 
+-- ---- sizes, in bytes
+
+-- p without its leading term, q or σ in a row of a degree.
+abbrev pub numberSize : ℕ → ℕ
+numberSize m = 2
+
+-- The row count in an entry of a degree.
+abbrev pub countSize : ℕ → ℕ
+countSize m = 2
+
+-- The offset in an entry.
+abbrev pub offsetSize : ℕ
+offsetSize = 4
+
+-- An entry of a degree: the degree and T in one byte each, the row count, the offset.
+abbrev pub entrySize : ℕ → ℕ
+entrySize m = 2 + countSize m + offsetSize
+
+-- A row: p without its leading term, q, σ, then t(3) .. t(T) in one byte each.
+abbrev pub rowSize : ℕ → ℕ → ℕ
+rowSize m top = 3 * numberSize m + (suc top - leastTop)
+
 -- ---- the form
 
 -- There are at most as many entries as lawful degrees: n is 0 to 15.
 abbrev pub mostEntries : ℕ
 mostEntries = suc largestDegree - leastDegree
 
--- The first body lies behind the first byte and the n entries of 8 bytes.
-abbrev pub contentsSize : ℕ → ℕ
-contentsSize n = 1 + 8 * n
-
--- A row of a body: p without its leading term, q and σ in two bytes each, then t(3) .. t(T) in one.
-abbrev pub rowSize : ℕ → ℕ
-rowSize top = top + 4
+-- The first entry lies behind the first byte.
+abbrev pub firstEntry : ℕ
+firstEntry = 1
 
 pub record Entry : Type 0 where
   pub degree : ℕ
@@ -35,19 +53,33 @@ pub record Entry : Type 0 where
   pub rows : ℕ
   pub offset : ℕ
 
+-- The entry at a place.
 unfoldable pub entryAt : List ℕ → ℕ → Entry
 entryAt s i =
-    record { degree = byteAt s (contentsSize i); top = byteAt s (contentsSize i + 1); rows = numberAt 2 s (contentsSize i + 2); offset = numberAt 4 s (contentsSize i + 4) }
+    let m : ℕ = byteAt s i in
+    record { degree = m; top = byteAt s (i + 1); rows = numberAt (countSize m) s (i + 2); offset = numberAt offsetSize s (i + 2 + countSize m) }
+
+-- The place behind the entry at a place.
+abbrev pub behindEntry : List ℕ → ℕ → ℕ
+behindEntry s i = i + entrySize (byteAt s i)
+
+-- The place behind the k entries from place i on: each is as long as its degree makes it.
+unfoldable pub behindEntries : List ℕ → ℕ → ℕ → ℕ
+behindEntries s zero i = i
+behindEntries s (suc k) i = behindEntries s k (behindEntry s i)
+
+-- The contents end, and the first body lies, behind the n entries.
+abbrev pub contentsEnd : List ℕ → ℕ
+contentsEnd s = behindEntries s (byteAt s 0) firstEntry
 
 abbrev pub bodySize : Entry → ℕ
-bodySize e = e .rows * rowSize (e .top)
+bodySize e = e .rows * rowSize (e .degree) (e .top)
 
 -- The row at a place: p's low part, q and σ are below 2^m and each t is at most m.
 unfoldable pub rowForm : ℕ → ℕ → List ℕ → ℕ → Bool
 rowForm m top s at =
-    ltb (numberAt 2 s at) (2 ^ m)
-    && (ltb (numberAt 2 s (at + 2)) (2 ^ m)
-    && (ltb (numberAt 2 s (at + 4)) (2 ^ m) && every (suc top - leastTop) (λ (k : ℕ). leb (byteAt s (at + 6 + k)) m)))
+    let w : ℕ = numberSize m in
+    every 3 (λ (k : ℕ). ltb (numberAt w s (at + k * w)) (2 ^ m)) && every (suc top - leastTop) (λ (k : ℕ). leb (byteAt s (at + 3 * w + k)) m)
 
 -- The entry's degree and T are lawful, its degree is above the last one, its body lies at `at` within the file, and each row is of the form.
 unfoldable pub entryForm : List ℕ → Entry → ℕ → ℕ → Bool
@@ -56,19 +88,19 @@ entryForm s e last at =
     && (ltb last (e .degree)
     && (lawfulTop (e .top)
     && (eqb (e .offset) at
-    && (leb (at + bodySize e) (length s) && every (e .rows) (λ (k : ℕ). rowForm (e .degree) (e .top) s (at + k * rowSize (e .top)))))))
+    && (leb (at + bodySize e) (length s) && every (e .rows) (λ (k : ℕ). rowForm (e .degree) (e .top) s (at + k * rowSize (e .degree) (e .top)))))))
 
--- The k entries from entry i on, behind the degree `last`: each body directly behind the one before, from `at`, and the last ends the file.
+-- The k entries from place i on, behind the degree `last`: each body directly behind the one before, from `at`, and the last ends the file.
 unfoldable pub entriesForm : List ℕ → ℕ → ℕ → ℕ → ℕ → Bool
 entriesForm s zero i last at = eqb at (length s)
 entriesForm s (suc k) i last at =
-    entryForm s (entryAt s i) last at && entriesForm s k (suc i) (entryAt s i .degree) (at + bodySize (entryAt s i))
+    entryForm s (entryAt s i) last at && entriesForm s k (behindEntry s i) (entryAt s i .degree) (at + bodySize (entryAt s i))
 
 unfoldable pub catalogueForm : List ℕ → Bool
 catalogueForm s =
     leb 1 (length s)
     && (leb (byteAt s 0) mostEntries
-    && (leb (contentsSize (byteAt s 0)) (length s) && entriesForm s (byteAt s 0) 0 0 (contentsSize (byteAt s 0))))
+    && (leb (contentsEnd s) (length s) && entriesForm s (byteAt s 0) firstEntry 0 (contentsEnd s)))
 
 -- ---- open and look up
 
@@ -76,16 +108,20 @@ catalogueForm s =
 unfoldable pub opening : List ℕ → Opening
 opening s = unless (situation (not (catalogueForm s)) IllFormedCatalogue ∷ []) Closed (Entries (byteAt s 0))
 
--- The place of the degree among the entries; their number where it is missing.
+-- The place of the degree's entry among the k from place i on; 0, where no entry lies, where it is missing.
+unfoldable pub entryFrom : List ℕ → ℕ → ℕ → ℕ → ℕ
+entryFrom s zero i m = 0
+entryFrom s (suc k) i m = elim (eqb (byteAt s i) m) [ true ↦ i | false ↦ entryFrom s k (behindEntry s i) m ]
+
 unfoldable pub entryOf : List ℕ → ℕ → ℕ
-entryOf s m = first (byteAt s 0) 0 (λ (i : ℕ). eqb (entryAt s i .degree) m)
+entryOf s m = entryFrom s (byteAt s 0) firstEntry m
 
 -- A lookup: 1, 9, 10.
 unfoldable pub looking : List ℕ → ℕ → List Situation
 looking s m =
     situation (not (lawfulDegree m)) WrongDegree
     ∷ situation (not (catalogueForm s)) IllFormedCatalogue
-    ∷ situation (eqb (entryOf s m) (byteAt s 0)) DegreeMissing
+    ∷ situation (eqb (entryOf s m) 0) DegreeMissing
     ∷ []
 
 -- T and the row count.
@@ -106,15 +142,17 @@ readerTop s m = unless (looking s m) (λ (n : Refusal). 0) (entryAt s (entryOf s
 -- Degree and T are in range, and the place is the start of a whole row of the body.
 unfoldable pub atRow : ℕ → ℕ → List ℕ → ℕ → Bool
 atRow m top body place =
-    lawfulDegree m && (lawfulTop top && (eqb (place % rowSize top) 0 && leb (place + rowSize top) (length body)))
+    lawfulDegree m && (lawfulTop top && (eqb (place % rowSize m top) 0 && leb (place + rowSize m top) (length body)))
 
 -- t(s) of the row at a place; 0 above the top dimension.
-abbrev pub tAt : ℕ → List ℕ → ℕ → ℕ → ℕ
-tAt top body place s = cond (leb s top) (byteAt body (place + 3 + s)) 0
+abbrev pub tAt : ℕ → ℕ → List ℕ → ℕ → ℕ → ℕ
+tAt m top body place s = cond (leb s top) (byteAt body (place + 3 * numberSize m + (s - leastTop))) 0
 
 unfoldable pub rowAt : ℕ → ℕ → List ℕ → ℕ → Row
 rowAt m top body place =
-    record { p = 2 ^ m + numberAt 2 body place; q = numberAt 2 body (place + 2); step = numberAt 2 body (place + 4); t3 = tAt top body place 3; t4 = tAt top body place 4; t5 = tAt top body place 5; t6 = tAt top body place 6; t7 = tAt top body place 7; t8 = tAt top body place 8 }
+    let w : ℕ = numberSize m in
+    let t : ℕ → ℕ = tAt m top body place in
+    record { p = 2 ^ m + numberAt w body place; q = numberAt w body (place + w); step = numberAt w body (place + 2 * w); t3 = t 3; t4 = t 4; t5 = t 5; t6 = t 6; t7 = t 7; t8 = t 8 }
 
 -- The next row, p with its leading term, or the end.
 unfoldable pub nextRow : ℕ → ℕ → List ℕ → ℕ → NextRow
@@ -122,4 +160,4 @@ nextRow m top body place = cond (atRow m top body place) (Found (rowAt m top bod
 
 -- The place behind the next row; at the end it stays.
 unfoldable pub nextPlace : ℕ → ℕ → List ℕ → ℕ → ℕ
-nextPlace m top body place = cond (atRow m top body place) (place + rowSize top) place
+nextPlace m top body place = cond (atRow m top body place) (place + rowSize m top) place

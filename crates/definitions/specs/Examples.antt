@@ -1,16 +1,16 @@
 -- The starred examples of document 01: one table and one theorem, computed. Assumes nothing.
-use Rattle.definitions.specs.Base.{Bool, true, false, _&&_, eqb, List, [], _∷_, _++_, map, ℕ, replicate, PageRequest, Start}
+use Rattle.definitions.specs.Base.{Bool, true, false, _&&_, eqb, List, [], _∷_, _++_, map, ℕ, replicate, Selection, PageRequest, Start}
 use mathlib.Core.Path.{_≡_, refl, ap₂}
 use lib.Dec.{T, eqb→eq}
 use Rattle.definitions.specs.Answers.{judgementValues, uniformityValues, pageValues, unless}
-use Rattle.definitions.specs.Calls.{judgement, uniformity, pageAnswer, pageSlice, pointsSlice, pairSituations, judging, measuring, positionSituations, paging, pageRows, furtherRow, pointing}
-use Rattle.definitions.specs.Number.{first, every, count, numbers, keep, all, gcdWithin, gcd}
+use Rattle.definitions.specs.Calls.{judgement, uniformity, pageRequest, pageAnswer, pageSlice, pointsSlice, pairSituations, judging, measuring, positionSituations, paging, pageRows, furtherRow, pointing}
+use Rattle.definitions.specs.Number.{first, every, count, numbers, keep, all, over, gcdWithin, gcd}
 use Rattle.definitions.specs.Polynomial.{_⊕_, degreeWithin, degree, byDigitsWithin, byDigits, prod, power, clear, bringDown, divide, quot, rem}
 use Rattle.definitions.specs.Generator.{wellFormed, order, primitive, found, expansionWithin, expansion, linearQuotients, step, coprimeStep, accepted}
 use Rattle.definitions.specs.Points.{leading, state, word, words, coordinate}
 use Rattle.definitions.specs.Net.{everyShare, everyBox, inBox, isNet, tValue}
-use Rattle.definitions.specs.Pages.{before, above, insert, insertAll, sort, rest, page, more, laid}
-use Rattle.definitions.specs.Ranking.{tValues, row, rowKey, allPairs, acceptedPairs, ranked, placeOf}
+use Rattle.definitions.specs.Pages.{before, above, insert, insertAll, sort, rest, page, more}
+use Rattle.definitions.specs.Ranking.{tValues, row, rowKey, allPairs, listedPairs, ranked, cutOf}
 
 -- What the definitions give, and what document 01 prints.
 pub record Example : Type 0 where
@@ -31,7 +31,7 @@ measures m p q s t = record { defined = uniformityValues (uniformity m p q s); p
 unfoldable pub lists : ℕ → ℕ → ℕ → List ℕ → List ℕ → Example
 unfolding pageAnswer pageSlice
 lists m top n answer slice =
-    let r : PageRequest = record { degree = m; top = top; position = Start } in
+    let r : PageRequest = pageRequest (record { degree = m; top = top }) Start in
     record { defined = pageValues (pageAnswer r (replicate n 0)) ++ pageSlice r (replicate n 0); printed = answer ++ slice }
 
 -- The first word of a pair of degree m.
@@ -89,7 +89,7 @@ agrees-equal (e ∷ l) t =
 
 -- To unfold this is to unfold all that the first four calls are defined by, so that they compute.
 unfoldable pub calls : ℕ
-unfolding first every count numbers keep all gcdWithin gcd _⊕_ degreeWithin degree byDigitsWithin byDigits prod power clear bringDown divide quot rem wellFormed order primitive found expansionWithin expansion linearQuotients step coprimeStep accepted leading state word words coordinate everyShare everyBox inBox isNet tValue before above insert insertAll sort rest page more laid tValues row rowKey allPairs acceptedPairs ranked placeOf unless pairSituations judging judgement measuring uniformity positionSituations paging pageRows furtherRow pageAnswer pageSlice pointing pointsSlice
+unfolding first every count numbers keep all over gcdWithin gcd _⊕_ degreeWithin degree byDigitsWithin byDigits prod power clear bringDown divide quot rem wellFormed order primitive found expansionWithin expansion linearQuotients step coprimeStep accepted leading state word words coordinate everyShare everyBox inBox isNet tValue before above insert insertAll sort rest page more tValues row rowKey allPairs listedPairs ranked cutOf unless pairSituations judging judgement measuring uniformity positionSituations paging pageRows furtherRow pageAnswer pageSlice pointing pointsSlice
 calls = 0
 
 starred-test : T (agrees table)

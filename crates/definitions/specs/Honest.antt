@@ -9,7 +9,7 @@ use borrow.Author.Tests.{ltb-true, ltb-false, eqb-true}
 use Rattle.definitions.specs.Number.{first, all}
 use Rattle.definitions.specs.Generator.{expansion, linear, linearQuotients}
 use Rattle.definitions.specs.Net.{isNet, tValue}
-use Rattle.definitions.specs.Pages.{Place, rest, page, more}
+use Rattle.definitions.specs.Pages.{Cut, rest, page, more}
 use Rattle.definitions.specs.Answers.{Situation, unless}
 use Rattle.definitions.specs.Calls.{paging, pageAnswer, pageSlice, pageRows, furtherRow, pointing, pointsAnswer, pointsSlice}
 
@@ -39,13 +39,13 @@ refused-points-keep m p q i s n =
     unless-both (λ a o. a ≡ NotWritten n → o ≡ s) (pointing m p q i) NotWritten _ (λ (k : Refusal). s) _ (λ k e. refl)
     (λ e. let z : _≡_ {A = ℕ} 0 1 = cc in absurd (omega arith))
 
--- A page that says that nothing follows has every row above its place.
-pub end-has-all : {X : Type 0} (key : X → List ℕ) (at : Place) (k : ℕ) (l : List X) → more key at k l ≡ false → page key at k l ≡ rest key at l
+-- A page that says that nothing follows has every row above its cut.
+pub end-has-all : {X : Type 0} (key : X → List ℕ) (at : Cut) (k : ℕ) (l : List X) → more key at k l ≡ false → page key at k l ≡ rest key at l
 unfolding more page
 end-has-all key at k l e = take-all k (rest key at l) (ltb-false k (length (rest key at l)) e)
 
 -- A page that says that a row follows has left one out.
-pub more-leaves-out : {X : Type 0} (key : X → List ℕ) (at : Place) (k : ℕ) (l : List X) → more key at k l ≡ true → length (page key at k l) < length (rest key at l)
+pub more-leaves-out : {X : Type 0} (key : X → List ℕ) (at : Cut) (k : ℕ) (l : List X) → more key at k l ≡ true → length (page key at k l) < length (rest key at l)
 unfolding more page
 more-leaves-out key at k l e =
     let h = ltb-true k (length (rest key at l)) e in

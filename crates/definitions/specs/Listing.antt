@@ -1,9 +1,9 @@
 -- The listing program: the line that it reads and the text that it prints, as bytes. Assumes nothing.
-use Rattle.definitions.specs.Base.{String, len, charAt, code, Bool, true, false, cond, _&&_, List, [], _∷_, _++_, map, ℕ, zero, suc, _+_, _-_, _*_, _/_, _%_, eqb, leb, ltb, length, take, drop, replicate, Refusal, PageRequest, Start, Line, Asked, Unreadable}
+use Rattle.definitions.specs.Base.{String, len, charAt, code, Bool, true, false, cond, _&&_, List, [], _∷_, _++_, map, ℕ, zero, suc, _+_, _-_, _*_, _/_, _%_, eqb, leb, ltb, length, take, drop, replicate, Refusal, Selection, Start, Line, Asked, Unreadable}
 use Rattle.definitions.specs.Number.{numbers, all, join}
 use Rattle.definitions.specs.Answers.{refusalNumber, unless}
 use Rattle.definitions.specs.Ranking.{rowWidth, ranked}
-use Rattle.definitions.specs.Calls.{paging}
+use Rattle.definitions.specs.Calls.{pageRequest, paging}
 
 -- ---- the line
 
@@ -50,6 +50,10 @@ unfoldable pub decimalFrom : ℕ → List ℕ → ℕ
 decimalFrom n [] = n
 decimalFrom n (b ∷ w) = decimalFrom (n * 10 + (b - 48)) w
 
+-- The numbers of a line; none where it cannot be read.
+unfoldable pub lineNumbers : List ℕ → List ℕ
+lineNumbers s = elim (all isNumber (wordsOf (lineOf s))) [ true ↦ map (decimalFrom 0) (wordsOf (lineOf s)) | false ↦ [] ]
+
 -- Degree, or degree and T, or degree, T and page size.
 unfoldable pub asked : List ℕ → Line
 asked [] = Unreadable
@@ -59,7 +63,7 @@ asked (m ∷ top ∷ size ∷ []) = Asked m top size
 asked (m ∷ top ∷ size ∷ n ∷ l) = Unreadable
 
 unfoldable pub readLine : List ℕ → Line
-readLine s = elim (all isNumber (wordsOf (lineOf s))) [ true ↦ asked (map (decimalFrom 0) (wordsOf (lineOf s))) | false ↦ Unreadable ]
+readLine s = asked (lineNumbers s)
 
 -- ---- the text
 
@@ -104,19 +108,19 @@ pagesText (suc within) number size rows =
       | false ↦ pageText number (length rows) false
     ]
 
-unfoldable pub listText : ℕ → ℕ → ℕ → List ℕ
-listText m top size =
-    let rows : List (List ℕ) = ranked m top in
-    headerText m top ++ pagesText (suc (length rows)) 1 size rows ++ totalText (length rows)
+unfoldable pub listText : Selection → ℕ → List ℕ
+listText l size =
+    let rows : List (List ℕ) = ranked l in
+    headerText (l .degree) (l .top) ++ pagesText (suc (length rows)) 1 size rows ++ totalText (length rows)
 
 -- The printed text: an unreadable line or a page size above 1000 first, then the refusals of a page that holds `size` rows, then the list.
 unfoldable pub answerText : Line → List ℕ
 answerText Unreadable = refusedText 0
 answerText (Asked m top size) =
-    let r : PageRequest = record { degree = m; top = top; position = Start } in
+    let l : Selection = record { degree = m; top = top } in
     elim (ltb largestSize size) [
       | true ↦ refusedText 0
-      | false ↦ unless (paging r (replicate (size * rowWidth top) 0)) (λ (n : Refusal). refusedText (refusalNumber n)) (listText m top size)
+      | false ↦ unless (paging (pageRequest l Start) (replicate (size * rowWidth l) 0)) (λ (n : Refusal). refusedText (refusalNumber n)) (listText l size)
     ]
 
 unfoldable pub listing : List ℕ → List ℕ

@@ -1,6 +1,6 @@
 -- Numbers and lists, as far as the definitions need them: the first number that passes a test, counting, greatest common divisors.
 -- Assumes nothing.
-use Rattle.definitions.specs.Base.{Bool, true, false, _&&_, List, [], _∷_, _++_, ℕ, zero, suc, _+_, _%_}
+use Rattle.definitions.specs.Base.{Bool, true, false, _&&_, List, [], _∷_, _++_, ℕ, zero, suc, _+_, _%_, length, take, drop}
 
 -- The first number from a on that passes the test, of n tried; the number behind these where none does.
 unfoldable pub first : ℕ → ℕ → (ℕ → Bool) → ℕ
@@ -45,6 +45,10 @@ all test (x ∷ l) = test x && all test l
 abbrev pub join : {X : Type 0} → List (List X) → List X
 join [] = []
 join (l ∷ ls) = l ++ join ls
+
+-- The numbers v written over s from a place on; what stands before them and behind them stays.
+unfoldable pub over : ℕ → List ℕ → List ℕ → List ℕ
+over at v s = take at s ++ v ++ drop (at + length v) s
 
 -- The greatest common divisor by Euclid's algorithm, in at most n steps; the remainders fall, so b + 1 steps are enough.
 unfoldable pub gcdWithin : ℕ → ℕ → ℕ → ℕ

@@ -1,6 +1,6 @@
 -- Lists ranked by a key, and their pages; nothing here speaks of generators. Assumes nothing.
-use Rattle.definitions.specs.Base.{Bool, true, false, cond, _&&_, _||_, List, [], _∷_, _++_, ℕ, _*_, eqb, ltb, length, take, drop}
-use Rattle.definitions.specs.Number.{keep, join}
+use Rattle.definitions.specs.Base.{Bool, true, false, cond, _&&_, _||_, List, [], _∷_, ℕ, eqb, ltb, length, take}
+use Rattle.definitions.specs.Number.{keep}
 
 -- Key a stands before key b: at the first place where they differ a has the smaller number, or a ends there.
 unfoldable pub before : List ℕ → List ℕ → Bool
@@ -9,13 +9,13 @@ before [] (y ∷ b) = true
 before (x ∷ a) [] = false
 before (x ∷ a) (y ∷ b) = ltb x y || (eqb x y && before a b)
 
--- Where a page begins: at the start, or after a key.
-pub data Place : Type 0 where
-  start : Place
-  after : List ℕ → Place
+-- A cut of the order, behind which a page begins: at the start, or after a key.
+pub data Cut : Type 0 where
+  start : Cut
+  after : List ℕ → Cut
 
--- A key stands above a place.
-unfoldable pub above : Place → List ℕ → Bool
+-- A key stands above a cut.
+unfoldable pub above : Cut → List ℕ → Bool
 above start k = true
 above (after j) k = before j k
 
@@ -34,18 +34,14 @@ module _ {X : Type 0} (key : X → List ℕ) where
   unfoldable pub sort : List X → List X
   sort rs = insertAll [] rs
 
-  -- The elements of l above a place.
-  unfoldable pub rest : Place → List X → List X
+  -- The elements of l above a cut.
+  unfoldable pub rest : Cut → List X → List X
   rest at l = keep (λ (x : X). above at (key x)) l
 
   -- A page of at most k elements.
-  unfoldable pub page : Place → ℕ → List X → List X
+  unfoldable pub page : Cut → ℕ → List X → List X
   page at k l = take k (rest at l)
 
-  -- Whether an element above the place is left over behind the page.
-  unfoldable pub more : Place → ℕ → List X → Bool
+  -- Whether an element above the cut is left over behind the page.
+  unfoldable pub more : Cut → ℕ → List X → Bool
   more at k l = ltb k (length (rest at l))
-
--- Rows of width w written over the front of s; every number behind them stays.
-unfoldable pub laid : ℕ → List (List ℕ) → List ℕ → List ℕ
-laid w rows s = join rows ++ drop (length rows * w) s

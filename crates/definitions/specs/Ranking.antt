@@ -1,9 +1,9 @@
 -- The ranked list: each accepted pair among all pairs there are, in the one order. Assumes nothing.
-use Rattle.definitions.specs.Base.{Bool, _&&_, List, _∷_, _++_, map, ℕ, suc, _-_, _^_, leb, take, drop, Position, Start, After}
+use Rattle.definitions.specs.Base.{Bool, _&&_, List, _∷_, _++_, map, ℕ, suc, _-_, _^_, leb, take, drop, Selection, Position, Start, After}
 use Rattle.definitions.specs.Number.{numbers, keep, join}
 use Rattle.definitions.specs.Generator.{Pair, period, step, accepted}
 use Rattle.definitions.specs.Net.{tValue}
-use Rattle.definitions.specs.Pages.{Place, start, after, sort}
+use Rattle.definitions.specs.Pages.{Cut, start, after, sort}
 
 -- The top dimension T is 3 to 8; a single t-value has dimension 1 to 8.
 abbrev pub leastTop : ℕ
@@ -18,17 +18,21 @@ lawfulTop t = leb leastTop t && leb t largestTop
 abbrev pub lawfulDimension : ℕ → Bool
 lawfulDimension s = leb 1 s && leb s largestTop
 
+-- The longest row, of the largest top dimension.
+abbrev pub longestRow : ℕ
+longestRow = suc largestTop
+
 -- A row is T + 1 numbers.
-abbrev pub rowWidth : ℕ → ℕ
-rowWidth top = suc top
+abbrev pub rowWidth : Selection → ℕ
+rowWidth l = suc (l .top)
 
 -- t(3) .. t(T).
 unfoldable pub tValues : ℕ → ℕ → ℕ → ℕ → List ℕ
 tValues m top p q = map (tValue m p q) (numbers leastTop (suc top - leastTop))
 
 -- A row: p, q, σ, t(3) .. t(T).
-unfoldable pub row : ℕ → ℕ → ℕ → ℕ → List ℕ
-row m top p q = p ∷ q ∷ step m p q ∷ tValues m top p q
+unfoldable pub row : Selection → ℕ → ℕ → List ℕ
+row l p q = p ∷ q ∷ step (l .degree) p q ∷ tValues (l .degree) (l .top) p q
 
 -- Rank: ascending by t(3) up to t(T), then by p, then by q. The key of a row is these numbers in this order.
 unfoldable pub rowKey : List ℕ → List ℕ
@@ -38,13 +42,14 @@ rowKey r = drop 3 r ++ take 2 r
 unfoldable pub allPairs : ℕ → List Pair
 allPairs m = join (map (λ (p : ℕ). map (λ (q : ℕ). record { p = p; q = q }) (numbers 1 (period m))) (numbers (2 ^ m) (2 ^ m)))
 
-unfoldable pub acceptedPairs : ℕ → List Pair
-acceptedPairs m = keep (λ (s : Pair). accepted m (s .p) (s .q)) (allPairs m)
+-- The pairs that a list has.
+unfoldable pub listedPairs : Selection → List Pair
+listedPairs l = keep (λ (s : Pair). accepted (l .degree) (s .p) (s .q)) (allPairs (l .degree))
 
-unfoldable pub ranked : ℕ → ℕ → List (List ℕ)
-ranked m top = sort rowKey (map (λ (s : Pair). row m top (s .p) (s .q)) (acceptedPairs m))
+unfoldable pub ranked : Selection → List (List ℕ)
+ranked l = sort rowKey (map (λ (s : Pair). row l (s .p) (s .q)) (listedPairs l))
 
--- A position as a place of the ranked list: after a pair means after its key.
-unfoldable pub placeOf : ℕ → ℕ → Position → Place
-placeOf m top Start = start
-placeOf m top (After p q) = after (rowKey (row m top p q))
+-- A position as a cut of the ranked list: after a pair means after its key.
+unfoldable pub cutOf : Selection → Position → Cut
+cutOf l Start = start
+cutOf l (After p q) = after (rowKey (row l p q))

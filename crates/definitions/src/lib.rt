@@ -1,5 +1,11 @@
 // The public types: what a customer asks with, and what each call answers. No functions.
 
+// Which ranked list is meant: its degree and its top dimension T.
+pub struct Selection {
+    pub degree: u32,
+    pub top: u32,
+}
+
 // Where a page begins: at the start of the ranked list, or after the pair (p, q).
 pub enum Position {
     Start,

@@ -63,11 +63,11 @@ module _ (n a : ℕ) (test : ℕ → Bool) where
 
   -- ---- told from others
   pub first-least : (w : ℕ) → a ≤ w → test w ≡ true → first n a test ≤ w
-  first-least w from pass = le-unless (λ l. not-both (first-before w from l) pass)
+  first-least w from pass = le-unless (λ l. not-both pass (first-before w from l))
 
   pub first-unique : (w : ℕ) → a ≤ w → w < a + n → test w ≡ true → ((i : ℕ) → a ≤ i → i < w → test i ≡ false) → first n a test ≡ w
   first-unique w from to pass before =
-      le-antisymm (first-least w from pass) (le-unless (λ l. not-both (before (first n a test) first-from l) (first-passes (omega arith))))
+      le-antisymm (first-least w from pass) (le-unless (λ l. not-both (first-passes (omega arith)) (before (first n a test) first-from l)))
 
   pub first-none : ((i : ℕ) → a ≤ i → i < a + n → test i ≡ false) → first n a test ≡ a + n
-  first-none none = le-antisymm first-to (le-unless (λ l. not-both (none (first n a test) first-from l) (first-passes l)))
+  first-none none = le-antisymm first-to (le-unless (λ l. not-both (first-passes l) (none (first n a test) first-from l)))

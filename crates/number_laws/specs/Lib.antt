@@ -8,3 +8,4 @@ pub mod Pigeon
 pub mod Lists
 pub mod Primes
 pub mod Covers
+pub mod Bounds

@@ -20,8 +20,14 @@ truth-equal false b h = sym (truth-false b (λ t. false≢true (h .1 t)))
 pub eqb-is : (a b : ℕ) → (eqb a b ≡ true) ↔ (a ≡ b)
 eqb-is a b = (eqb-true a b, eq-eqb a b)
 
-pub not-both : {b : Bool} → b ≡ false → b ≡ true → ⊥
-not-both f t = false≢true (sym f ∙ t)
+-- no test is passed and failed
+pub not-both : {b : Bool} {C : Type 0} → b ≡ true → b ≡ false → C
+not-both t f = absurd (false≢true (sym f ∙ t))
+
+-- by cases on a test, with what it gave
+pub by-test : {C : Type 0} (b : Bool) → (b ≡ true → C) → (b ≡ false → C) → C
+by-test true holds fails = holds refl
+by-test false holds fails = fails refl
 
 pub le-unless : {a b : ℕ} → (b < a → ⊥) → a ≤ b
 le-unless {a} {b} h =

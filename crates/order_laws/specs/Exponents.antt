@@ -75,7 +75,7 @@ module _ (test : ℕ → Bool) (N : ℕ) where
 module _ (P : ℕ → Type 0) (test : ℕ → Bool) (same : (e : ℕ) → (test e ≡ true) ↔ P e) (N : ℕ) (l : List ℕ) where
   pub noneOf-is : (noneOf test N l ≡ true) ↔ ((r : ℕ) → List·Memᴰ r l → ¬ P (N / r))
   noneOf-is = (
-    λ t r m h. not-both (none-out test N t m) (same (N / r) .1 h),
+    λ t r m h. not-both (same (N / r) .1 h) (none-out test N t m),
     λ none. none-in test N l (λ r m. truth-false _ (λ t. none r m (same (N / r) .0 t))),
   )
 

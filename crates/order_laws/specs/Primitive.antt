@@ -35,7 +35,7 @@ module _ (m p : ℕ) (positive : 1 ≤ m) where
       record {
         positive = period-positive m positive;
         holds = returns-is p (period m) .0 (rw found at at-end);
-        least = λ e h k. le-unless (λ l. not-both (first-before (period m) 1 (returns p) e h (omega arith)) (returns-is p e .1 k));
+        least = λ e h k. le-unless (λ l. not-both (returns-is p e .1 k) (first-before (period m) 1 (returns p) e h (omega arith)));
       }
 
   order-primitive : IsOrder p (period m) → primitive m p ≡ true

@@ -1,0 +1,2 @@
+-- Laws of writing over a lent slice.
+pub mod Over

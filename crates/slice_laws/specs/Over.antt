@@ -1,0 +1,70 @@
+-- Numbers written over a list from a place on, `over` of the definitions: nothing written, one number written, one behind another, the last first.
+-- Two parts written one behind the other are their concatenation written once: `take` and `drop` meet at the seam.
+-- Assumes nothing.
+use mathlib.Core.Path.{_≡_, refl, sym, ap, _∙_}
+use mathlib.Core.List.{List, [], _∷_, _++_, append-assoc, append-nil}
+use Prim.Native.Nat.{ℕ, zero, suc, _+_, _≤_, _<_}
+use native.Mathlib.Nat.{add-zero, zero-add, add-assoc}
+use native.Mathlib.Numerals.{add-one}
+use native.Mathlib.Omega.{arith}
+use lib.ListN.{length, take, drop, set, getD, length-append, length-take, length-drop, take-append-drop, drop-of-length-le}
+use lib.Seq.{drop-at, take-at, drop-drop, drop-cons, take-set-le, drop-set-lt, set-split, getD-set-same, append-snoc, lt-length-set}
+use Rattle.definitions.specs.Number.{over}
+
+pub over-def : (at : ℕ) (v s : List ℕ) → over at v s ≡ take at s ++ v ++ drop (at + length v) s
+unfolding over
+over-def at v s = refl
+
+-- Over the front.
+pub over-front : (v s : List ℕ) → over 0 v s ≡ v ++ drop (length v) s
+unfolding over
+over-front v s = rw zero-add
+
+pub over-nothing : (at : ℕ) (s : List ℕ) → over at [] s ≡ s
+unfolding over
+over-nothing at s = simp (add-zero, append-nil) (take-append-drop at s)
+
+pub length-over : (at : ℕ) (v s : List ℕ) → at + length v ≤ length s → length (over at v s) ≡ length s
+unfolding over
+length-over at v s h = simp (length-append, length-take, length-drop) (omega arith)
+
+-- Two parts, one behind the other.
+pub over-append : (at : ℕ) (a b out : List ℕ) → at + length a ≤ length out → over (at + length a) b (over at a out) ≡ over at (a ++ b) out
+unfolding over
+over-append at a b out h =
+    let front : length (take at out ++ a) ≡ at + length a = simp (length-append, length-take) (omega arith) in
+    rw (
+      take-at (take at out ++ a) (drop (at + length a) out) (at + length a) front,
+      ← drop-drop (length b) (at + length a) (take at out ++ a ++ drop (at + length a) out),
+      drop-at (take at out ++ a) (drop (at + length a) out) (at + length a) front,
+    ) (simp (drop-drop, length-append, append-assoc, add-assoc))
+
+-- A number is stored at the place.
+pub over-one : (at b : ℕ) (out : List ℕ) → at < length out → set out at b ≡ over at (b ∷ []) out
+unfolding over
+over-one at b out h = rw (add-one) (set-split out at b h ∙ sym (append-snoc (take at out) b (drop (suc at) out)))
+
+-- The last number is stored before the others.
+pub over-last : (at : ℕ) (a : List ℕ) (b : ℕ) (out : List ℕ) → at + length a < length out → over at a (set out (at + length a) b) ≡ over at (a ++ b ∷ []) out
+unfolding over
+over-last at a b out h =
+    let k = at + length a in
+    let stored : drop k (set out k b) ≡ b ∷ drop (suc k) out =
+    drop-cons (set out k b) k 0 (lt-length-set out k b h) ∙ rw (getD-set-same out k b 0 h, drop-set-lt (suc k) out k b (omega arith)) in
+    let kept : take at (set out k b) ≡ take at out = take-set-le at out k b (omega arith) in
+    let end : at + length (a ++ b ∷ []) ≡ suc k = simp length-append (omega arith) in
+    rw (kept, stored, end) (simp append-assoc)
+
+pub over-next : (at b : ℕ) (text out : List ℕ) → at < length out → over (suc at) text (set out at b) ≡ over at (b ∷ text) out
+over-next at b text out h =
+    rw (over-one at b out h, ← add-one at) (over-append at (b ∷ []) text out (omega arith))
+
+-- One number of a part, at the place of those that are left.
+pub over-turn : (at : ℕ) (word : List ℕ) (i : ℕ) (out : List ℕ) → i < length word → at + i < length out
+    → over (at + (i + 1)) (drop (i + 1) word) (set out (at + i) (getD word i 0)) ≡ over (at + i) (drop i word) out
+over-turn at word i out h k =
+    rw (← add-assoc at i 1, add-one (at + i), add-one i, drop-cons word i 0 h) (over-next (at + i) (getD word i 0) (drop (suc i) word) out k)
+
+pub over-end : (at : ℕ) (word : List ℕ) (i : ℕ) (out : List ℕ) → length word ≤ i → out ≡ over (at + i) (drop i word) out
+over-end at word i out h = sym (rw (drop-of-length-le word h) (over-nothing (at + i) out))
+

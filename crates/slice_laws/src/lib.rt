@@ -1,0 +1,1 @@
+// Laws of writing over a slice, over the definitions. No functions.
