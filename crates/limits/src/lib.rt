@@ -13,6 +13,14 @@ pub const LEAST_TOP: u32 = 3;
 
 pub const LARGEST_TOP: u32 = 8;
 
+pub const LEAST_DIMENSION: u32 = 1;
+
+// The most coordinates that a point has here.
+pub const COORDINATES: usize = LARGEST_TOP as usize;
+
+// The numbers of the longest row: p, q, the step and the t-values up to the largest top dimension.
+pub const LONGEST_ROW: usize = LARGEST_TOP as usize + 1;
+
 // From `least` to `most`.
 pub fn between(x: u32, least: u32, most: u32) -> bool
     ensures { λ r. ⌜ r ≡ (leb least x && leb x most) ⌝ }
@@ -39,5 +47,5 @@ pub fn is_lawful_top(top: u32) -> bool
 pub fn is_lawful_dimension(dimension: u32) -> bool
     ensures { λ r. ⌜ r ≡ lawfulDimension dimension ⌝ }
 {
-    between(dimension, 1, LARGEST_TOP)
+    between(dimension, LEAST_DIMENSION, LARGEST_TOP)
 }
