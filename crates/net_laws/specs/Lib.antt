@@ -1,5 +1,4 @@
--- From additive functions to t-values, in the order in which the laws build on each other.
-pub mod Additive
+-- From reduction of rows to t-values, in the order in which the laws build on each other.
 pub mod Reduction
 pub mod Pairing
 pub mod Cell
