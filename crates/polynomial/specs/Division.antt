@@ -7,11 +7,11 @@ use native.Mathlib.Omega.{arith}
 use lib.Pow.{pow-mono}
 use lib.Bits.{bitXor}
 use Rattle.definitions.specs.Polynomial.{_⊕_, degree, prod}
+use Rattle.number_laws.specs.Bounds.{one-shl}
 use Rattle.polynomial_laws.specs.Sum.{⊕-def, ⊕-cancel-both}
 use Rattle.polynomial_laws.specs.Degree.{HasDegree, degree-is, degree-least, degree-most, power-degree, leads-cancel}
 use Rattle.polynomial_laws.specs.Product.{⊕-prod, product-degree}
 use Rattle.polynomial_laws.specs.Power.{power-prod}
-use Rattle.polynomial.specs.Digits.{one-shl}
 
 -- A turn of the loop: r, of degree i, has b's degree m at least.
 pub record Turn (r b i m : ℕ) : Type 0 where

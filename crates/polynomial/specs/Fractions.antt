@@ -16,7 +16,7 @@ use Rattle.polynomial_laws.specs.Division.{rem-lt, division-unique}
 use Rattle.fraction_laws.specs.Quotients.{linearQuotients-zero, linearQuotients-next, linearQuotients-stop}
 use Rattle.fraction_laws.specs.Level.{child-def}
 use Rattle.polynomial.specs.Digits.{below-mask, above-mask}
-use Rattle.polynomial.specs.Modulus.{Modulus, modulus-degree, top-fits}
+use Rattle.polynomial.specs.Modulus.{Modulus, modulus-degree, lead-fits}
 
 x-prod : (b : ℕ) → prod 2 b ≡ b * 2
 x-prod b = two-prod b ∙ mul-comm 2 b
@@ -61,9 +61,9 @@ pub record Run (p q a b lead : ℕ) : Type 0 where
   pub fits : lead ≤ 2 ^ 31
   pub same : linearQuotients a b ≡ linearQuotients p q
 
-pub run-start : {p q top : ℕ} → Modulus p top → p < 2 ^ 32 → q < top → Run p q p q top
+pub run-start : {p q lead : ℕ} → Modulus p lead → p < 2 ^ 32 → q < lead → Run p q p q lead
 run-start {p} h fits l =
-    record { n = degree p; degree-a = modulus-degree h; leading = h .leading; smaller = l; fits = top-fits h fits; same = refl }
+    record { n = degree p; degree-a = modulus-degree h; leading = h .leading; smaller = l; fits = lead-fits h fits; same = refl }
 
 pub run-end : {p q a b lead : ℕ} → Run p q a b lead → b ≡ 0 → eqb a 1 ≡ linearQuotients p q
 run-end {a = a} h z = sym (linearQuotients-zero a) ∙ ap (linearQuotients a) (sym z) ∙ h .same
