@@ -1,6 +1,6 @@
--- Judging a pair of a lawful degree, and what any call answers at each of a pair's situations. Assumes nothing.
-use mathlib.Core.Path.{_≡_, refl}
-use mathlib.Core.Bool.{true, false}
+-- Judging a pair of a lawful degree: by its tests in their order, which of its situations decides, or that none applies. Assumes nothing.
+use mathlib.Core.Path.{_≡_, refl, ap}
+use mathlib.Core.Bool.{true, false, not}
 use Prim.Native.Nat.{ℕ}
 use lib.Dec.{eqb}
 use Rattle.definitions.specs.Answers.{unless}
@@ -11,6 +11,7 @@ use Rattle.definitions.specs.declared.Refusal.{Refusal}
 use Rattle.definitions.specs.declared.Refusal.the-variants.{WrongDegree, IllFormedPair, NotPrimitive, QuotientNotLinear, StepNotCoprime}
 use Rattle.definitions.specs.declared.Judgement.{Judgement}
 use Rattle.definitions.specs.declared.Judgement.the-variants.{Accepted, Rejected}
+use Rattle.answer_laws.specs.Unless.{Decides, here, later, NoneApplies, passes, at-end}
 use Rattle.generator.specs.declared.pair.Verdict.{Verdict}
 use Rattle.generator.specs.declared.pair.Verdict.the-variants.{Refused, Passed}
 
@@ -42,38 +43,38 @@ pub record Fit (m p q : ℕ) : Type 0 where
 
 -- What the tests of these three say: what the pair is refused for, or that it is fit.
 unfoldable pub Checked : ℕ → ℕ → ℕ → Verdict → Type 0
-Checked m p q (Refused r) = pairVerdict m p q ≡ Refused r
+Checked m p q (Refused r) = Decides r (pairSituations m p q)
 Checked m p q Passed = Fit m p q
 
-pub checked-refused : (m p q : ℕ) {v : Verdict} {r : Refusal} → Checked m p q v → v ≡ Refused r → pairVerdict m p q ≡ Refused r
+pub checked-refused : (m p q : ℕ) {v : Verdict} {r : Refusal} → Checked m p q v → v ≡ Refused r → Decides r (pairSituations m p q)
 unfolding Checked
 checked-refused m p q h e = rw e at h
 
-pub checked-fit : (m p q : ℕ) {v : Verdict} → Checked m p q v → v ≡ Passed → Fit m p q
+pub checked-fit : {m p q : ℕ} {v : Verdict} → Checked m p q v → v ≡ Passed → Fit m p q
 unfolding Checked
-checked-fit m p q h e = rw e at h
+checked-fit h e = rw e at h
 
--- ---- an answer, at each situation
+-- ---- the tests in their order
 
-module _ {A : Type 0} (refuse : Refusal → A) (value : A) (m p q : ℕ) where
-  pub ill-formed : wellFormed m p q ≡ false → unless (pairSituations m p q) refuse value ≡ refuse IllFormedPair
-  unfolding pairSituations unless
-  ill-formed w = rw w
+module _ (m p q : ℕ) where
+  pub ill-formed : wellFormed m p q ≡ false → Decides IllFormedPair (pairSituations m p q)
+  unfolding pairSituations
+  ill-formed w = here (ap not w)
 
   module _ (w : wellFormed m p q ≡ true) where
-    pub not-primitive : primitive m p ≡ false → unless (pairSituations m p q) refuse value ≡ refuse NotPrimitive
-    unfolding pairSituations unless
-    not-primitive t = rw (w, t)
+    pub not-primitive : primitive m p ≡ false → Decides NotPrimitive (pairSituations m p q)
+    unfolding pairSituations
+    not-primitive t = later (ap not w) (here (ap not t))
 
-    pub not-linear : primitive m p ≡ true → linearQuotients p q ≡ false → unless (pairSituations m p q) refuse value ≡ refuse QuotientNotLinear
-    unfolding pairSituations unless
-    not-linear t l = rw (w, t, l)
+    pub not-linear : primitive m p ≡ true → linearQuotients p q ≡ false → Decides QuotientNotLinear (pairSituations m p q)
+    unfolding pairSituations
+    not-linear t l = later (ap not w) (later (ap not t) (here (ap not l)))
 
-  module _ (f : Fit m p q) where
-    pub not-coprime : coprimeStep m p q ≡ false → unless (pairSituations m p q) refuse value ≡ refuse StepNotCoprime
-    unfolding pairSituations unless
-    not-coprime c = rw (f .well-formed, f .primitive-p, f .linear, c)
+module _ {m p q : ℕ} (f : Fit m p q) where
+  pub not-coprime : coprimeStep m p q ≡ false → Decides StepNotCoprime (pairSituations m p q)
+  unfolding pairSituations
+  not-coprime c = later (ap not (f .well-formed)) (later (ap not (f .primitive-p)) (later (ap not (f .linear)) (here (ap not c))))
 
-    pub all-pass : coprimeStep m p q ≡ true → unless (pairSituations m p q) refuse value ≡ value
-    unfolding pairSituations unless
-    all-pass c = rw (f .well-formed, f .primitive-p, f .linear, c)
+  pub all-pass : coprimeStep m p q ≡ true → NoneApplies (pairSituations m p q)
+  unfolding pairSituations
+  all-pass c = passes (ap not (f .well-formed)) (passes (ap not (f .primitive-p)) (passes (ap not (f .linear)) (passes (ap not c) at-end)))

@@ -1,88 +1,52 @@
--- A call whose situations begin with those of a pair is refused as the pair is; where the pair passes, the rest of its situations decide.
--- Assumes nothing.
-use mathlib.Core.Path.{_≡_, refl, sym, ap, _∙_}
-use mathlib.Core.Bool.{Bool, true, false}
-use mathlib.Core.List.{List, [], _∷_, _++_}
+-- What a pair's verdict tells: which of its situations decides, or that none applies. So a call whose situations begin with those of a pair is refused
+-- as the pair is; and a pair that passes is well-formed and accepted. Assumes nothing.
+use mathlib.Core.Path.{_≡_, sym}
+use mathlib.Core.Bool.{true}
 use Prim.Native.Nat.{ℕ}
 use native.Mathlib.Omega.{arith}
 use borrow.Author.Tests.{not-false}
-use Rattle.definitions.specs.Answers.{Situation, unless}
+use Rattle.definitions.specs.Answers.{unless}
 use Rattle.definitions.specs.Calls.{pairSituations}
 use Rattle.definitions.specs.Generator.{accepted, coprimeStep}
-use Rattle.definitions.specs.Honest.{unless-both}
 use Rattle.definitions.specs.declared.Refusal.{Refusal}
+use Rattle.answer_laws.specs.Unless.{Decides, NoneApplies, passes, at-end, unless-refused, unless-given, given-exactly, refused-exactly}
 use Rattle.fraction_laws.specs.WellFormed.{WellFormed, wellFormed-is}
 use Rattle.order_laws.specs.Accepted.{accepted-is}
 use Rattle.generator.specs.Judging.{pairVerdict, Fit}
-use Rattle.generator.specs.declared.pair.Verdict.{Verdict}
 use Rattle.generator.specs.declared.pair.Verdict.the-variants.{Refused, Passed}
 
--- ---- situations one by one
+never : (r : Refusal) → Refused r ≡ Passed → ⊥
+never r e = let z : _≡_ {A = ℕ} 0 1 = cc in omega arith
 
-module _ {A : Type 0} (refuse : Refusal → A) (value : A) where
-  pub unless-nil : unless [] refuse value ≡ value
-  unfolding unless
-  unless-nil = refl
+module _ (m p q : ℕ) where
+  pub verdict-decides : {r : Refusal} → pairVerdict m p q ≡ Refused r → Decides r (pairSituations m p q)
+  unfolding pairVerdict
+  verdict-decides {r} = refused-exactly Refused Passed (pairSituations m p q) r (λ e. never r (sym e)) (λ k e. cc) .0
 
-  pub unless-applies : (s : Situation) (l : List Situation) → s .applies ≡ true → unless (s ∷ l) refuse value ≡ refuse (s .refusal)
-  unfolding unless
-  unless-applies s l h = rw h
+  pub verdict-passes : pairVerdict m p q ≡ Passed → NoneApplies (pairSituations m p q)
+  unfolding pairVerdict
+  verdict-passes = given-exactly Refused Passed (pairSituations m p q) never .0
 
-  pub unless-passes : (s : Situation) (l : List Situation) → s .applies ≡ false → unless (s ∷ l) refuse value ≡ unless l refuse value
-  unfolding unless
-  unless-passes s l h = rw h
-
--- The situations k are looked at where none of l applies.
-pub unless-append : {A : Type 0} (refuse : Refusal → A) (value : A) (l k : List Situation) → unless (l ++ k) refuse value ≡ unless l refuse (unless k refuse value)
-unless-append refuse value [] k = sym (unless-nil refuse (unless k refuse value))
-unless-append refuse value (s ∷ l) k = go (s .applies) refl (unless-append refuse value l k)
-  where
-    go : (b : Bool) → s .applies ≡ b → unless (l ++ k) refuse value ≡ unless l refuse (unless k refuse value)
-        → unless ((s ∷ l) ++ k) refuse value ≡ unless (s ∷ l) refuse (unless k refuse value)
-    go true t ih = unless-applies refuse value s (l ++ k) t ∙ sym (unless-applies refuse (unless k refuse value) s l t)
-    go false t ih = unless-passes refuse value s (l ++ k) t ∙ ih ∙ sym (unless-passes refuse (unless k refuse value) s l t)
-
--- ---- a pair's verdict
-
-never : {C : Type 0} (r : Refusal) → Refused r ≡ Passed → C
-never r e = let z : _≡_ {A = ℕ} 0 1 = cc in absurd (omega arith)
-
--- What passes has no situation that applies.
-none-applies : (s : Situation) (l : List Situation) → unless (s ∷ l) Refused Passed ≡ Passed → (s .applies ≡ false) × (unless l Refused Passed ≡ Passed)
-none-applies s l e = go (s .applies) refl
-  where
-    go : (b : Bool) → s .applies ≡ b → (s .applies ≡ false) × (unless l Refused Passed ≡ Passed)
-    go true t = never (s .refusal) (sym (unless-applies Refused Passed s l t) ∙ e)
-    go false t = (t, sym (unless-passes Refused Passed s l t) ∙ e)
+  fit-coprime : NoneApplies (pairSituations m p q) → Fit m p q × (coprimeStep m p q ≡ true)
+  unfolding pairSituations
+  fit-coprime (passes a (passes b (passes c (passes d at-end)))) =
+      (record { well-formed = not-false _ a; primitive-p = not-false _ b; linear = not-false _ c }, not-false _ d)
 
 module _ (m p q : ℕ) where
   module _ {A : Type 0} (refuse : Refusal → A) (value : A) where
     -- Whatever the kind of answer, it is the same refusal,
     pub pair-refused : {r : Refusal} → pairVerdict m p q ≡ Refused r → unless (pairSituations m p q) refuse value ≡ refuse r
-    unfolding pairVerdict
-    pair-refused {r} =
-        unless-both (λ (v : Verdict) (a : A). v ≡ Refused r → a ≡ refuse r) (pairSituations m p q) Refused Passed refuse value
-        (λ k (e : Refused k ≡ Refused r). let z : k ≡ r = cc in ap refuse z)
-        (λ e. never r (sym e))
+    pair-refused e = unless-refused refuse value (verdict-decides m p q e)
 
     -- or the value.
     pub pair-passes : pairVerdict m p q ≡ Passed → unless (pairSituations m p q) refuse value ≡ value
-    unfolding pairVerdict
-    pair-passes =
-        unless-both (λ (v : Verdict) (a : A). v ≡ Passed → a ≡ value) (pairSituations m p q) Refused Passed refuse value (λ k e. never k e) (λ e. refl)
+    pair-passes e = unless-given refuse value (verdict-passes m p q e)
 
   module _ (e : pairVerdict m p q ≡ Passed) where
-    all-apart : Fit m p q × (coprimeStep m p q ≡ true)
-    unfolding pairVerdict pairSituations
-    all-apart =
-        let a = none-applies _ _ e in
-        let b = none-applies _ _ (a .1) in
-        let c = none-applies _ _ (b .1) in
-        let d = none-applies _ _ (c .1) in
-        (record { well-formed = not-false _ (a .0); primitive-p = not-false _ (b .0); linear = not-false _ (c .0) }, not-false _ (d .0))
-
     pub passed-well-formed : WellFormed m p q
-    passed-well-formed = wellFormed-is m p q .0 (all-apart .0 .well-formed)
+    passed-well-formed = wellFormed-is m p q .0 (fit-coprime m p q (verdict-passes m p q e) .0 .well-formed)
 
     pub passed-accepted : accepted m p q ≡ true
-    passed-accepted = accepted-is m p q .1 (record { primitive-p = all-apart .0 .primitive-p; linear = all-apart .0 .linear; coprime = all-apart .1 })
+    passed-accepted =
+        let (fit, coprime) = fit-coprime m p q (verdict-passes m p q e) in
+        accepted-is m p q .1 (record { primitive-p = fit .primitive-p; linear = fit .linear; coprime = coprime })

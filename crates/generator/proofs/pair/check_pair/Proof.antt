@@ -3,6 +3,7 @@
 use mathlib.Core.Path.{sym, _∙_}
 use borrow.Author.Needs.{needs}
 use borrow.Author.Tests.{not-true, not-false}
+use Rattle.answer_laws.specs.Unless.{unless-refused, unless-given}
 use Rattle.fraction_laws.specs.WellFormed.{wellFormed-is}
 use Rattle.generator.specs.Judging.{Fit, pairVerdict, checked-refused, checked-fit, not-coprime, all-pass}
 use Rattle.generator.specs.declared.pair.Verdict.the-variants.{Refused, Passed}
@@ -11,7 +12,7 @@ use Rattle.generator.proofs.pair.check_pair.Tie as tie
 
 -- what the tests before the step say of the pair
 fit : (c : tie.After-enum-told) → let a = c .before .before .before .args in Fit (a .m) (a .p) (a .q)
-fit c = checked-fit _ _ _ (c .before .before .check-polynomials .ensures) (c .enum-told .given .1)
+fit c = checked-fit (c .before .before .check-polynomials .ensures) (c .enum-told .given .1)
 
 has-full-order-requires : tie.Need-has-full-order-requires
 has-full-order-requires c κs = (c .before .before .before .pre, (wellFormed-is _ _ _ .0 (fit c .well-formed), fit c .primitive-p))
@@ -19,15 +20,17 @@ has-full-order-requires c κs = (c .before .before .before .pre, (wellFormed-is 
 smaller-order : tie.Need-returns
 unfolding pairVerdict
 smaller-order c =
-    sym (not-coprime Refused Passed _ _ _ (fit (c .before .before)) (sym (c .before .has-full-order .ensures) ∙ not-true _ (c .if1 .taken)))
+    sym (unless-refused Refused Passed (not-coprime (fit (c .before .before)) (sym (c .before .has-full-order .ensures) ∙ not-true _ (c .if1 .taken))))
 
 refused : tie.Need-returns-2
-refused c = sym (checked-refused _ _ _ (c .before .before .before .check-polynomials .ensures) (c .before .refusal .given .1))
+unfolding pairVerdict
+refused c =
+    sym (unless-refused Refused Passed (checked-refused _ _ _ (c .before .before .before .check-polynomials .ensures) (c .before .refusal .given .1)))
 
 full-order : tie.Need-returns-3
 unfolding pairVerdict
 full-order c =
-    sym (all-pass Refused Passed _ _ _ (fit (c .before .before)) (sym (c .before .has-full-order .ensures) ∙ not-false _ (c .if1 .left)))
+    sym (unless-given Refused Passed (all-pass (fit (c .before .before)) (sym (c .before .has-full-order .ensures) ∙ not-false _ (c .if1 .left))))
 
 pub check-pair-spec : {M : Type 1} → statement M
 check-pair-spec =

@@ -7,14 +7,13 @@ use borrow.Author.Tests.{not-true, not-false}
 use Rattle.definitions.specs.Generator.{wellFormed, primitive}
 use Rattle.fraction_laws.specs.WellFormed.{WellFormed, wellFormed-is}
 use Rattle.polynomial.specs.Modulus.{lawful-modulus}
-use Rattle.generator.specs.Judging.{Checked, pairVerdict, ill-formed, not-primitive, not-linear}
-use Rattle.generator.specs.declared.pair.Verdict.the-variants.{Refused, Passed}
+use Rattle.generator.specs.Judging.{Checked, ill-formed, not-primitive, not-linear}
 use Rattle.generator.proofs.pair.check_polynomials.Statement.{statement}
 use Rattle.generator.proofs.pair.check_polynomials.Tie as tie
 
 ill-formed-pair : tie.Need-returns
-unfolding Checked pairVerdict
-ill-formed-pair c = ill-formed Refused Passed _ _ _ (sym (c .before .is-well-formed .ensures) ∙ not-true _ (c .if1 .taken))
+unfolding Checked
+ill-formed-pair c = ill-formed _ _ _ (sym (c .before .is-well-formed .ensures) ∙ not-true _ (c .if1 .taken))
 
 -- ---- of a well-formed pair
 well-formed : (c : tie.Else1) → let a = c .before .before .args in wellFormed (a .m) (a .p) (a .q) ≡ true
@@ -27,9 +26,9 @@ is-primitive-requires : tie.Need-is-primitive-requires
 is-primitive-requires c κs = (c .before .before .pre, proper c .degree-p)
 
 p-not-primitive : tie.Need-returns-2
-unfolding Checked pairVerdict
+unfolding Checked
 p-not-primitive c =
-    not-primitive Refused Passed _ _ _ (well-formed (c .before .before)) (sym (c .before .is-primitive .ensures) ∙ not-true _ (c .if2 .taken))
+    not-primitive _ _ _ (well-formed (c .before .before)) (sym (c .before .is-primitive .ensures) ∙ not-true _ (c .if2 .taken))
 
 -- ---- where p is primitive
 abbrev behind : tie.Else2 → tie.Else1
@@ -45,10 +44,10 @@ linear-quotients-requires c κs =
     (lawful-modulus (at .before .before .pre) (proper at .degree-p) lead, rw lead (proper at .smaller))
 
 quotient-not-linear : tie.Need-returns-3
-unfolding Checked pairVerdict
+unfolding Checked
 quotient-not-linear c =
     let at = c .before .before .before in
-    not-linear Refused Passed _ _ _ (well-formed (behind at)) (is-primitive at) (sym (c .before .linear-quotients .ensures) ∙ not-true _ (c .if3 .taken))
+    not-linear _ _ _ (well-formed (behind at)) (is-primitive at) (sym (c .before .linear-quotients .ensures) ∙ not-true _ (c .if3 .taken))
 
 passed : tie.Need-returns-4
 unfolding Checked

@@ -9,9 +9,9 @@ use Rattle.definitions.specs.Number.{gcd}
 use Rattle.definitions.specs.Generator.{step, period}
 use Rattle.definitions.specs.declared.Judgement.the-variants.{Accepted, Rejected}
 use Rattle.number_laws.specs.Bounds.{lead-low}
+use Rattle.answer_laws.specs.Unless.{unless-refused, unless-given}
 use Rattle.fraction_laws.specs.WellFormed.{wellFormed-is}
 use Rattle.generator.specs.Judging.{Fit, pairJudgement, checked-refused, checked-fit, not-coprime, all-pass, coprimeStep-def}
-use Rattle.generator.specs.Refusals.{pair-refused}
 use Rattle.generator.proofs.pair.judge_pair.Statement.{statement}
 use Rattle.generator.proofs.pair.judge_pair.Tie as tie
 
@@ -20,7 +20,7 @@ abbrev start : tie.After-enum-told → tie.Start
 start c = c .before .before .before
 
 fit : (c : tie.After-enum-told) → let a = start c .args in Fit (a .m) (a .p) (a .q)
-fit c = checked-fit _ _ _ (c .before .before .check-polynomials .ensures) (c .enum-told .given .1)
+fit c = checked-fit (c .before .before .check-polynomials .ensures) (c .enum-told .given .1)
 
 find-step-requires : tie.Need-find-step-requires
 find-step-requires c κs = (start c .pre, (wellFormed-is _ _ _ .0 (fit c .well-formed), fit c .primitive-p))
@@ -39,21 +39,20 @@ divisor-is c = c .gcd-of .ensures ∙ ap₂ gcd (c .before .before .find-step .e
 common-divisor : tie.Need-returns
 unfolding pairJudgement
 common-divisor c =
-    sym (not-coprime Rejected (Accepted _) _ _ _ (fit (told (c .before)))
-    (coprimeStep-def _ _ _ ∙ ne-eqb _ 1 (λ e. c .if1 .taken (divisor-is (c .before) ∙ e))))
+    sym (unless-refused Rejected (Accepted _)
+    (not-coprime (fit (told (c .before))) (coprimeStep-def _ _ _ ∙ ne-eqb _ 1 (λ e. c .if1 .taken (divisor-is (c .before) ∙ e)))))
 
 refused : tie.Need-returns-2
 unfolding pairJudgement
 refused c =
-    sym (pair-refused _ _ _ Rejected (Accepted _)
-    (checked-refused _ _ _ (c .before .before .before .check-polynomials .ensures) (c .before .refusal .given .1)))
+    sym (unless-refused Rejected (Accepted _) (checked-refused _ _ _ (c .before .before .before .check-polynomials .ensures) (c .before .refusal .given .1)))
 
 coprime : tie.Need-returns-3
 unfolding pairJudgement
 coprime c =
     ap Accepted (c .before .before .before .find-step .ensures)
-    ∙ sym (all-pass Rejected (Accepted _) _ _ _ (fit (told (c .before)))
-    (coprimeStep-def _ _ _ ∙ eq-eqb _ 1 (sym (divisor-is (c .before)) ∙ c .if1 .left)))
+    ∙ sym (unless-given Rejected (Accepted _)
+    (all-pass (fit (told (c .before))) (coprimeStep-def _ _ _ ∙ eq-eqb _ 1 (sym (divisor-is (c .before)) ∙ c .if1 .left))))
 
 pub judge-pair-spec : {M : Type 1} → statement M
 judge-pair-spec =
