@@ -1,7 +1,2 @@
--- What the contracts cite, and the laws that the code's proofs cite.
-pub mod Digits
-pub mod Writing
+-- The laws that the code's proofs cite.
 pub mod Answering
-pub mod Spreading
-pub mod Tables
-pub mod Filling

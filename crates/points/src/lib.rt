@@ -6,10 +6,7 @@ use definitions::Refusal;
 use generator::degrees;
 use generator::pair;
 use generator::pair::Verdict;
-
-pub mod word; // one word: the first 32 digits of a residue over p
-pub mod tables; // the next state and the word by tables
-pub mod words; // the words from an index on
+use words::writing;
 
 // Writes words first, first + 1, .. until the slice or the period ends, and says how many; or document 01's refusal 1, 3, 4, 5, 6 or 8.
 pub fn points(degree: u32, p: u32, q: u32, first: u32, out: &mut [u32]) -> PointsAnswer
@@ -26,8 +23,8 @@ pub fn points(degree: u32, p: u32, q: u32, first: u32, out: &mut [u32]) -> Point
             if first > last {
                 return PointsAnswer::NotWritten(Refusal::BeyondPeriod);
             }
-            let count = words::smaller(out.len(), (last - first) as usize + 1);
-            words::write(degree, p, q, first, count, out);
+            let count = writing::smaller(out.len(), (last - first) as usize + 1);
+            writing::write(degree, p, q, first, count, out);
             PointsAnswer::Written(count)
         }
     }

@@ -44,6 +44,11 @@ pub over-one : (at b : ℕ) (out : List ℕ) → at < length out → set out at 
 unfolding over
 over-one at b out h = rw (add-one) (set-split out at b h ∙ sym (append-snoc (take at out) b (drop (suc at) out)))
 
+-- A number is stored behind a part.
+pub over-behind : (at : ℕ) (a : List ℕ) (b : ℕ) (out : List ℕ) → at + length a < length out → set (over at a out) (at + length a) b ≡ over at (a ++ b ∷ []) out
+over-behind at a b out h =
+    over-one (at + length a) b (over at a out) (omega (arith, length-over at a out (omega arith))) ∙ over-append at a (b ∷ []) out (omega arith)
+
 -- The last number is stored before the others.
 pub over-last : (at : ℕ) (a : List ℕ) (b : ℕ) (out : List ℕ) → at + length a < length out → over at a (set out (at + length a) b) ≡ over at (a ++ b ∷ []) out
 unfolding over
@@ -67,4 +72,3 @@ over-turn at word i out h k =
 
 pub over-end : (at : ℕ) (word : List ℕ) (i : ℕ) (out : List ℕ) → length word ≤ i → out ≡ over (at + i) (drop i word) out
 over-end at word i out h = sym (rw (drop-of-length-le word h) (over-nothing (at + i) out))
-

@@ -7,60 +7,77 @@ use denote.Ref.{now}
 use borrow.Author.Needs.{needs}
 use borrow.Author.Tests.{not-true, not-false}
 use Rattle.definitions.specs.Generator.{lawfulDegree}
-use Rattle.generator.specs.Lawful.{Lawful, lawful-is, top-low}
+use Rattle.number_laws.specs.Bounds.{LawfulDegree, lawfulDegree-is, lead-low}
+use Rattle.generator.specs.Judging.{pairVerdict}
 use Rattle.generator.specs.Refusals.{passed-well-formed}
-use Rattle.points.specs.Answering.{answered-unlawful, answered-refused, answered-beyond, answered-written, words-left}
+use Rattle.generator.specs.declared.pair.Verdict.the-variants.{Passed}
+use Rattle.points.specs.Answering.{answered-unlawful, answered-pair, answered-beyond, answered-written, words-left}
 use Rattle.points.proofs.points.Statement.{statement}
 use Rattle.points.proofs.points.Tie as tie
 
-returns : tie.Need-returns
-returns c = answered-unlawful _ _ _ _ _ (sym (c .before .is-lawful-degree .ensures) ∙ not-true _ (c .if1 .taken))
+unlawful : tie.Need-returns
+unlawful c = answered-unlawful _ _ _ _ _ (sym (c .before .is-lawful-degree .ensures) ∙ not-true _ (c .if1 .taken))
 
-lawful : (c : tie.Else1) → lawfulDegree (c .before .before .before .args .degree) ≡ true
+-- ---- of a lawful degree
+abbrev start : tie.Else1 → tie.Start
+start c = c .before .before .before
+
+lawful : (c : tie.Else1) → lawfulDegree (start c .args .degree) ≡ true
 lawful c = sym (c .before .is-lawful-degree .ensures) ∙ not-false _ (c .if1 .left)
 
-covered : (c : tie.Else1) → Lawful (c .before .before .before .args .degree)
-covered c = lawful-is _ .0 (lawful c)
+covered : (c : tie.Else1) → LawfulDegree (start c .args .degree)
+covered c = lawfulDegree-is _ .0 (lawful c)
 
 check-pair-requires : tie.Need-check-pair-requires
 check-pair-requires c κs = covered c
 
+pair-refused : tie.Need-returns-3
+pair-refused c =
+    let checked = c .before .before .before in
+    answered-pair _ _ _ _ _ (lawful (checked .before)) (sym (checked .check-pair .ensures) ∙ c .before .refusal .given .1)
+
+-- ---- of a pair that passes
+abbrev behind : tie.After-enum-told → tie.Else1
+behind c = c .before .before .before
+
+passed : (c : tie.After-enum-told) → let a = start (behind c) .args in pairVerdict (a .degree) (a .p) (a .q) ≡ Passed
+passed c = sym (c .before .before .check-pair .ensures) ∙ c .enum-told .given .1
+
 leading-term-requires : tie.Need-leading-term-requires
-leading-term-requires c κs = covered (c .before .before .before)
+leading-term-requires c κs = covered (behind c)
 
-sub-last : tie.Need-sub-last
-sub-last c = omega (arith, c .leading-term .ensures, top-low (covered (c .before .before .before .before)))
+last-exists : tie.Need-sub-last
+last-exists c = omega (arith, c .leading-term .ensures, lead-low (covered (behind (c .before))))
 
-returns-2 : tie.Need-returns-2
-returns-2 c =
-    let behind = c .before .before .before .before .before in
-    let told = c .before .before .enum-told .given in
-    answered-beyond _ _ _ _ _ (lawful behind) (sym (c .before .before .before .before .check-pair .ensures) ∙ told .1) (omega (arith, c .before .leading-term .ensures))
+beyond : tie.Need-returns-2
+beyond c =
+    let at = c .before .before in
+    answered-beyond _ _ _ _ _ (lawful (behind at)) (passed at) (omega (arith, c .before .leading-term .ensures))
+
+-- ---- words left
+abbrev told : tie.After-smaller → tie.After-enum-told
+told c = c .before .before .before
 
 write-requires : tie.Need-write-requires
 write-requires c κs =
-    let behind = c .before .before .before .before .before .before .before in
-    let told = c .before .before .before .before .enum-told .given in
-    (covered behind, (passed-well-formed _ _ _ (sym (c .before .before .before .before .before .before .check-pair .ensures) ∙ told .1), omega (arith, c .before .smaller .ensures)))
+    let at = told (c .before) in
+    (covered (behind at), (passed-well-formed _ _ _ (passed at), omega (arith, c .before .smaller .ensures)))
 
-returns-3 : tie.Need-returns-3
-returns-3 c =
-    let told = c .before .refusal .given in
-    answered-refused _ _ _ _ _ (lawful (c .before .before .before .before)) (told .0 .0) (sym (c .before .before .before .check-pair .ensures) ∙ told .1)
+abbrev counted : tie.After-slice-known2 → tie.After-smaller
+counted c = c .before .before .before .before
 
-returns-4 : tie.Need-returns-4
-returns-4 c =
-    let behind = c .before .before .before .before .before .before .before .before .before .before in
-    let told = c .before .before .before .before .before .before .before .enum-told .given in
-    let top = c .before .before .before .before .before .before .leading-term .ensures in
-    answered-written _ _ _ _ _ (lawful behind) _ _ (sym (c .before .before .before .before .before .before .before .before .before .check-pair .ensures) ∙ told .1)
-    (omega (arith, top))
-    (c .before .before .before .before .smaller .ensures
-    ∙ words-left _ _ _ (now (behind .before .before .before .args .out)) top (omega (arith, top, top-low (covered behind))) (c .before .before .before .before .before .if2 .left))
+written : tie.Need-returns-4
+written c =
+    let at = told (counted c) in
+    let lead = counted c .before .before .leading-term .ensures in
+    let out = now (start (behind at) .args .out) in
+    answered-written _ _ _ _ _ (lawful (behind at)) (passed at)
+    (omega (arith, lead))
+    (counted c .smaller .ensures ∙ words-left _ _ _ out lead (omega (arith, lead, lead-low (covered (behind at)))) (counted c .before .if2 .left))
     (c .before .before .write .ensures)
 
 pub points-spec : {M : Type 1} → statement M
 points-spec =
     tie.close
-    (tie.spec (λ c κs. search needs) returns check-pair-requires (λ c. search needs) (λ c. search needs) leading-term-requires sub-last
-    returns-2 (λ c. search needs) (λ c. search needs) (λ c κs. search needs) write-requires returns-3 (λ c. search needs) returns-4)
+    (tie.spec (λ c κs. search needs) unlawful check-pair-requires (λ c. search needs) (λ c. search needs) leading-term-requires last-exists
+    beyond (λ c. search needs) (λ c. search needs) (λ c κs. search needs) write-requires pair-refused (λ c. search needs) written)

@@ -1,16 +1,17 @@
 // The words from an index on.
 ghost use mathlib.Core.Path.{_≡_};
-ghost use mathlib.Core.List.{_++_};
 ghost use Prim.Native.Nat.{_^_, _<_, _≤_, min};
-ghost use lib.ListN.{length, drop};
+ghost use lib.ListN.{length};
+ghost use Rattle.definitions.specs.Number.{over};
 ghost use Rattle.definitions.specs.Points.{state, words};
+ghost use Rattle.number_laws.specs.Bounds.{LawfulDegree};
 ghost use Rattle.fraction_laws.specs.WellFormed.{WellFormed};
-ghost use Rattle.generator.specs.Lawful.{Lawful};
 use crate::tables;
 use crate::word;
 use generator::degrees;
 use polynomial::residues;
 
+// The smaller of two numbers.
 pub fn smaller(a: usize, b: usize) -> usize
     ensures { λ r. ⌜ r ≡ min a b ⌝ }
 {
@@ -19,7 +20,7 @@ pub fn smaller(a: usize, b: usize) -> usize
 
 // The state of word i: q to that power.
 fn state_at(m: u32, p: u32, q: u32, i: u32) -> u32
-    requires { ⌜ Lawful m ⌝ }
+    requires { ⌜ LawfulDegree m ⌝ }
     requires { ⌜ WellFormed m p q ⌝ }
     ensures { λ y. ⌜ (y ≡ state p q i) × (y < 2 ^ m) ⌝ }
 {
@@ -31,10 +32,10 @@ const MANY: usize = 16;
 
 // Words first .. first + count - 1 over the front of the slice; what stands behind them stays.
 pub fn write(m: u32, p: u32, q: u32, first: u32, count: usize, out: &mut [u32])
-    requires { ⌜ Lawful m ⌝ }
+    requires { ⌜ LawfulDegree m ⌝ }
     requires { ⌜ WellFormed m p q ⌝ }
     requires { ⌜ count ≤ length (now out) ⌝ }
-    ensures { λ r. ⌜ now (out .exit) ≡ words p q first count ++ drop count (now (out .entry)) ⌝ }
+    ensures { λ r. ⌜ now (out .exit) ≡ over 0 (words p q first count) (now (out .entry)) ⌝ }
 {
     if count < MANY {
         write_few(m, p, q, first, count, out);
@@ -45,39 +46,39 @@ pub fn write(m: u32, p: u32, q: u32, first: u32, count: usize, out: &mut [u32])
 
 // Each word by long division, each next state times q.
 fn write_few(m: u32, p: u32, q: u32, first: u32, count: usize, out: &mut [u32])
-    requires { ⌜ Lawful m ⌝ }
+    requires { ⌜ LawfulDegree m ⌝ }
     requires { ⌜ WellFormed m p q ⌝ }
     requires { ⌜ count ≤ length (now out) ⌝ }
-    ensures { λ r. ⌜ now (out .exit) ≡ words p q first count ++ drop count (now (out .entry)) ⌝ }
+    ensures { λ r. ⌜ now (out .exit) ≡ over 0 (words p q first count) (now (out .entry)) ⌝ }
 {
-    let top = degrees::leading_term(m);
+    let lead = degrees::leading_term(m);
     let mut y = state_at(m, p, q, first);
     let mut i: usize = 0;
     while i < count {
         out[i] = word::word_of(m, p, y);
-        y = residues::mul_mod(q, y, p, top);
+        y = residues::mul_mod(q, y, p, lead);
         i += 1;
     }
 }
 
 // The same by tables: two entries give the word, two the next state.
 fn write_many(m: u32, p: u32, q: u32, first: u32, count: usize, out: &mut [u32])
-    requires { ⌜ Lawful m ⌝ }
+    requires { ⌜ LawfulDegree m ⌝ }
     requires { ⌜ WellFormed m p q ⌝ }
     requires { ⌜ count ≤ length (now out) ⌝ }
-    ensures { λ r. ⌜ now (out .exit) ≡ words p q first count ++ drop count (now (out .entry)) ⌝ }
+    ensures { λ r. ⌜ now (out .exit) ≡ over 0 (words p q first count) (now (out .entry)) ⌝ }
 {
     let mut y = state_at(m, p, q, first);
     let mut next_low = [0u32; tables::SIZE];
     let mut word_low = [0u32; tables::SIZE];
-    tables::fill(m, p, q, 1, &mut next_low, &mut word_low);
+    tables::fill(m, p, q, tables::LOWER_UNIT, &mut next_low, &mut word_low);
     let mut next_high = [0u32; tables::SIZE];
     let mut word_high = [0u32; tables::SIZE];
-    tables::fill(m, p, q, 256, &mut next_high, &mut word_high);
+    tables::fill(m, p, q, tables::UPPER_UNIT, &mut next_high, &mut word_high);
     let mut i: usize = 0;
     while i < count {
-        let low = (y % 256) as usize;
-        let high = (y / 256) as usize;
+        let low = (y % tables::UPPER_UNIT) as usize;
+        let high = (y / tables::UPPER_UNIT) as usize;
         out[i] = word_low[low] ^ word_high[high];
         y = next_low[low] ^ next_high[high];
         i += 1;

@@ -1,17 +1,18 @@
--- `points::words::state_at` meets its contract: the states are the powers of q. Assumes nothing.
+-- `words::writing::state_at` meets its contract: the states are the powers of q. Assumes nothing.
 use mathlib.Core.Path.{sym, _∙_}
 use native.Mathlib.Omega.{arith}
 use borrow.Author.Needs.{needs}
 use Rattle.order_laws.specs.Cycle.{degree-big}
 use Rattle.order_laws.specs.State.{state-power}
-use Rattle.polynomial.specs.Modulus.{modulus}
-use Rattle.points.proofs.words.state_at.Statement.{statement}
-use Rattle.points.proofs.words.state_at.Tie as tie
+use Rattle.polynomial.specs.Modulus.{lawful-modulus}
+use Rattle.words.proofs.writing.state_at.Statement.{statement}
+use Rattle.words.proofs.writing.state_at.Tie as tie
 
 pow-mod-requires : tie.Need-pow-mod-requires
 pow-mod-requires c κs =
     let pre = c .before .pre in
-    rw (c .leading-term .ensures) (modulus _ _ (omega (arith, pre .0 .low)) (pre .1 .degree-p), pre .1 .smaller)
+    let lead = c .leading-term .ensures in
+    (lawful-modulus (pre .0) (pre .1 .degree-p) lead, rw lead (pre .1 .smaller))
 
 returns : tie.Need-returns
 returns c =

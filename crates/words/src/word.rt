@@ -2,8 +2,8 @@
 ghost use mathlib.Core.Path.{_≡_};
 ghost use Prim.Native.Nat.{_^_, _<_};
 ghost use Rattle.definitions.specs.Points.{leading, wordDigits};
+ghost use Rattle.number_laws.specs.Bounds.{LawfulDegree};
 ghost use Rattle.polynomial_laws.specs.Degree.{HasDegree};
-ghost use Rattle.generator.specs.Lawful.{Lawful};
 use generator::degrees;
 use polynomial::residues;
 
@@ -11,18 +11,18 @@ const WORD_DIGITS: u32 = 32;
 
 // The first 32 digits of y/p by long division, the first as the highest bit.
 pub fn word_of(m: u32, p: u32, y: u32) -> u32
-    requires { ⌜ Lawful m ⌝ }
+    requires { ⌜ LawfulDegree m ⌝ }
     requires { ⌜ HasDegree p m ⌝ }
     requires { ⌜ y < 2 ^ m ⌝ }
     ensures { λ r. ⌜ r ≡ leading p wordDigits y ⌝ }
 {
-    let top = degrees::leading_term(m);
+    let lead = degrees::leading_term(m);
     let mut word: u32 = 0;
     let mut rest = y;
     let mut d: u32 = 0;
     while d < WORD_DIGITS {
         word = word * 2 + (rest * 2 >> m);
-        rest = residues::times_x(rest, p, top);
+        rest = residues::times_x(rest, p, lead);
         d += 1;
     }
     word
