@@ -8,8 +8,8 @@ use Prim.Native.Nat.{ℕ, zero, suc, _<_, _≤_}
 use native.Mathlib.Omega.{arith}
 use lib.ListN.{length, take, drop, getD}
 use Rattle.definitions.specs.Pages.{before, insert}
-use Rattle.number_laws.specs.Truth.{truth-false}
-use Rattle.page_laws.specs.Key.{before-self, before-asym, before-trans-weak, by-test, not-both}
+use Rattle.number_laws.specs.Truth.{truth-false, not-both, by-test}
+use Rattle.page_laws.specs.Key.{before-self, before-asym, before-trans-weak}
 use Rattle.page_laws.specs.Members.{each-more, take-within, getD-member}
 use Rattle.page_laws.specs.Insertion.{insert-put, put-out}
 
