@@ -123,7 +123,8 @@ module _ (key : List ℕ → List ℕ) (w cap : ℕ) (at : Cut) where
     unfolding found page rest keep
     found-none = rw (take-nil, over-nothing)
 
-    found-more : (r : List ℕ) (l : List (List ℕ)) → length r ≡ w → Wide w l → offered key w cap at r (found key w cap at s l) ≡ found key w cap at s (insert key r l)
+    found-more : (r : List ℕ) (l : List (List ℕ)) → length r ≡ w → Wide w l
+        → offered key w cap at r (found key w cap at s l) ≡ found key w cap at s (insert key r l)
     unfolding offered found inserted page
     found-more r l e wide = by-test (above at (key r))
         (λ t. let P = take cap (rest key at l) in

@@ -4,7 +4,6 @@ use mathlib.Core.Path.{_≡_, refl, sym, ap, _∙_}
 use mathlib.Core.Bool.{Bool, true}
 use mathlib.Core.List.{List}
 use Prim.Native.Nat.{ℕ, _+_, _≤_}
-use native.Mathlib.Omega.{arith}
 use lib.ListN.{length}
 use borrow.Author.Tests.{le-ltb}
 use Rattle.definitions.specs.Number.{join, over}
@@ -13,19 +12,19 @@ use Rattle.definitions.specs.Generator.{lawfulDegree}
 use Rattle.definitions.specs.Pages.{Cut, page, more}
 use Rattle.definitions.specs.Ranking.{lawfulTop, rowWidth, rowKey, ranked, cutOf}
 use Rattle.definitions.specs.Calls.{pageRequest, paging, positionSituations, pairSituations, capacity, pageRows, furtherRow, pageAnswer, pageSlice}
-use Rattle.definitions.specs.Honest.{unless-both}
-use Rattle.definitions.specs.declared.Refusal.{Refusal}
 use Rattle.definitions.specs.declared.Selection.{Selection}
 use Rattle.definitions.specs.declared.Position.{Position}
 use Rattle.definitions.specs.declared.Position.the-variants.{Start, After}
 use Rattle.definitions.specs.declared.PageRequest.{PageRequest}
-use Rattle.definitions.specs.declared.PageAnswer.the-variants.{Page, NoPage}
+use Rattle.definitions.specs.declared.PageAnswer.the-variants.{Page}
+use Rattle.answer_laws.specs.Lent.{page-given}
 use Rattle.number_laws.specs.Bounds.{lawfulTop-is}
 use Rattle.order_laws.specs.Accepted.{accepted-is}
 use Rattle.ranking_laws.specs.Rule.{rankedBy}
 use Rattle.ranking_laws.specs.Met.{ruleOf, width-is}
 use Rattle.ranking_laws.specs.Ranked.{ranked-is}
-use Rattle.ranking_laws.specs.Reading.{cutBy, ListedPosition, at-start, after-listed, pageBy, moreBy, Pager, SessionWith, Given, Serves, reading-ends, reading-whole}
+use Rattle.ranking_laws.specs.Reading.{cutBy, ListedPosition, at-start, after-listed, pageBy, moreBy}
+use Rattle.ranking_laws.specs.Reading.{Pager, SessionWith, Given, Serves, reading-ends, reading-whole}
 
 -- The pages of a selected list.
 abbrev pub pagerOf : Selection → Pager
@@ -56,27 +55,13 @@ module _ (l : Selection) (at : Position) (s : List ℕ) where
   unfolding furtherRow
   further-is = rw (cut-is l at, ranked-is l)
 
-  -- An answer that is a page says how many rows it has and whether a further one exists, and they are written.
-  page-given : (n : ℕ) (b : Bool) → pageAnswer request s ≡ Page n b
-      → (Page (length (pageRows request s)) (furtherRow request s) ≡ Page n b) × (pageSlice request s ≡ over 0 (join (pageRows request s)) s)
-  unfolding pageAnswer pageSlice
-  page-given n b =
-      unless-both
-      (λ a o. a ≡ Page n b → (Page (length (pageRows request s)) (furtherRow request s) ≡ Page n b) × (o ≡ over 0 (join (pageRows request s)) s))
-      (paging request s) NoPage _ (λ (k : Refusal). s) _
-      (λ k (f : NoPage k ≡ Page n b). let z : _≡_ {A = ℕ} 0 1 = cc in absurd (omega arith))
-      (λ f. (f, refl))
-
   given : (n : ℕ) (b : Bool) → pageAnswer request s ≡ Page n b → Given (ruleOf l) (pagerOf l) at s n b
   given n b e =
-      let told = page-given n b e in
-      let answer = told .0 in
-      let number : n ≡ length (pageRows request s) = cc in
-      let flag : furtherRow request s ≡ b = cc in
+      let told = page-given request s e in
       record {
-        count = number ∙ ap length rows-are;
-        further = sym further-is ∙ flag;
-        written = told .1 ∙ ap (λ (rows : List (List ℕ)). over 0 (join rows) s) rows-are;
+        count = sym (told .1) ∙ ap length rows-are;
+        further = sym further-is ∙ told .2;
+        written = told .3 ∙ ap (λ (rows : List (List ℕ)). over 0 (join rows) s) rows-are;
       }
 
 module _ (l : Selection) (lawful-degree : lawfulDegree (l .degree) ≡ true) (lawful-top : lawfulTop (l .top) ≡ true) where

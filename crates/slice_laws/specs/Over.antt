@@ -9,7 +9,8 @@ use native.Mathlib.Numerals.{add-one}
 use native.Mathlib.Omega.{arith}
 use lib.Dec.{leb}
 use lib.ListN.{length, take, drop, set, getD, length-append, length-take, length-drop, take-append-drop, drop-of-length-le, List·getD-append}
-use lib.Seq.{drop-at, take-at, take-all, take-take, take-append-le, getD-take, length-take-le, drop-drop, drop-cons, take-set-le, drop-set-lt, set-split, getD-set-same, append-snoc, lt-length-set}
+use lib.Seq.{drop-at, take-at, take-all, take-take, take-append-le, getD-take, length-take-le}
+use lib.Seq.{drop-drop, drop-cons, take-set-le, drop-set-lt, set-split, getD-set-same, append-snoc, lt-length-set}
 use borrow.Author.Tests.{leb-true, leb-false}
 use Rattle.definitions.specs.Number.{over}
 use Rattle.number_laws.specs.Truth.{by-test}
@@ -42,7 +43,8 @@ pub over-again : (a b s : List ℕ) → length a ≤ length b → over 0 b (over
 over-again a b s h =
     let k : ℕ = length b - length a in
     let e : length b ≡ length a + k = omega arith in
-    rw (over-front a s, over-front b (a ++ drop (length a) s), over-front b s, e, ← drop-drop k (length a) (a ++ drop (length a) s), drop-at a (drop (length a) s) (length a) refl, drop-drop)
+    let rest = drop (length a) s in
+    rw (over-front a s, over-front b (a ++ rest), over-front b s, e, ← drop-drop k (length a) (a ++ rest), drop-at a rest (length a) refl, drop-drop)
 
 pub over-nothing : (at : ℕ) (s : List ℕ) → over at [] s ≡ s
 unfolding over
@@ -97,9 +99,11 @@ over-last at a b out h =
     let end : at + length (a ++ b ∷ []) ≡ suc k = simp length-append (omega arith) in
     rw (kept, stored, end) (simp append-assoc)
 
+-- A number is stored before the others.
 pub over-store : (at b : ℕ) (text out : List ℕ) → at < length out → suc at + length text ≤ length out → set (over (suc at) text out) at b ≡ over at (b ∷ text) out
 over-store at b text out h l =
-    rw (over-one at b (over (suc at) text out) (omega (arith, length-over (suc at) text out l)), ← add-one at) (over-before at (b ∷ []) text out (omega arith))
+    let inside : at < length (over (suc at) text out) = omega (arith, length-over (suc at) text out l) in
+    rw (over-one at b (over (suc at) text out) inside, ← add-one at) (over-before at (b ∷ []) text out (omega arith))
 
 pub over-next : (at b : ℕ) (text out : List ℕ) → at < length out → over (suc at) text (set out at b) ≡ over at (b ∷ text) out
 over-next at b text out h =
