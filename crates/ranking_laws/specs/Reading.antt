@@ -4,11 +4,11 @@
 use mathlib.Core.Path.{_≡_, refl, sym, ap, ap₂, _∙_}
 use mathlib.Core.Bool.{Bool, true, false}
 use mathlib.Core.List.{List, [], _∷_, List·Memᴰ, List·Memᴰ·head, List·Memᴰ·tail}
-use Prim.Native.Nat.{ℕ, suc, _+_, _/_, _≤_}
+use Prim.Native.Nat.{ℕ, suc, _+_, _-_, _*_, _/_, _≤_, _<_}
 use native.Mathlib.Nat.{le-div-iff-mul-le}
 use native.Mathlib.Omega.{arith}
 use lib.ListN.{length, drop, getD}
-use lib.Seq.{length-take-le}
+use lib.Seq.{length-take-le, getD-take, getD-drop}
 use borrow.Author.Tests.{ltb-true}
 use Rattle.definitions.specs.Number.{join, over}
 use Rattle.definitions.specs.Generator.{Pair, wellFormed}
@@ -19,7 +19,7 @@ use Rattle.definitions.specs.declared.Position.the-variants.{Start, After}
 use Rattle.definitions.specs.declared.PageAnswer.{PageAnswer}
 use Rattle.definitions.specs.declared.PageAnswer.the-variants.{Page}
 use Rattle.page_laws.specs.Members.{page-out}
-use Rattle.page_laws.specs.Rows.{rowsOf, Wide, rows-back}
+use Rattle.page_laws.specs.Rows.{rowsOf, Wide, length-rows, row-at, rows-back}
 use Rattle.page_laws.specs.Search.{wide-page}
 use Rattle.page_laws.specs.Walk.{behind, Walk, ends, goes, rest-page, walk-ends, walk-whole}
 use Rattle.ranking_laws.specs.Rule.{Rule, widthBy, rankedBy, ListedRow, rankedBy-ascends, rankedBy-wide, rankedBy-out}
@@ -56,6 +56,21 @@ unfolding behind lastRow
 behind-last at [] h = absurd (omega arith)
 behind-last at (x ∷ []) h = refl
 behind-last at (x ∷ y ∷ rows) h = behind-last (after (rowKey x)) (y ∷ rows) (omega arith)
+
+last-at : (rows : List (List ℕ)) → 1 ≤ length rows → lastRow [] rows ≡ getD rows (length rows - 1) []
+unfolding lastRow
+last-at [] h = absurd (omega arith)
+last-at (x ∷ []) h = refl
+last-at (x ∷ y ∷ rows) h = last-at (y ∷ rows) (omega arith) ∙ rw last-place
+  where
+    last-place : suc (suc (length rows)) - 1 ≡ suc (length (y ∷ rows) - 1)
+    last-place = omega arith
+
+-- The numbers of the last of n rows in a slice.
+pub last-number : (w n i : ℕ) (t : List ℕ) → 1 ≤ n → i < w → getD (lastRow [] (rowsOf w n t)) i 0 ≡ getD t ((n - 1) * w + i) 0
+last-number w n i t h l =
+    let long = length-rows w n t in
+    rw (last-at (rowsOf w n t) (omega arith), long, row-at w n (n - 1) t (omega arith), getD-take w (drop ((n - 1) * w) t) i 0 l, getD-drop)
 
 module _ (k : Rule) where
   -- A row of the list begins with its pair.
