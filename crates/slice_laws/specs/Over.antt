@@ -67,4 +67,3 @@ over-turn at word i out h k =
 
 pub over-end : (at : ℕ) (word : List ℕ) (i : ℕ) (out : List ℕ) → length word ≤ i → out ≡ over (at + i) (drop i word) out
 over-end at word i out h = sym (rw (drop-of-length-le word h) (over-nothing (at + i) out))
-
