@@ -100,8 +100,8 @@ over-last at a b out h =
     rw (kept, stored, end) (simp append-assoc)
 
 -- A number is stored before the others.
-pub over-store : (at b : ℕ) (text out : List ℕ) → at < length out → suc at + length text ≤ length out → set (over (suc at) text out) at b ≡ over at (b ∷ text) out
-over-store at b text out h l =
+pub over-store : (at b : ℕ) (text out : List ℕ) → suc at + length text ≤ length out → set (over (suc at) text out) at b ≡ over at (b ∷ text) out
+over-store at b text out l =
     let inside : at < length (over (suc at) text out) = omega (arith, length-over (suc at) text out l) in
     rw (over-one at b (over (suc at) text out) inside, ← add-one at) (over-before at (b ∷ []) text out (omega arith))
 
