@@ -11,7 +11,15 @@ ghost use Rattle.polynomial_laws.specs.Degree.{HasDegree};
 ghost use Rattle.least_weight.specs.Weight.{PowersOf};
 ghost use Rattle.net.specs.Bound.{Stop};
 
-// t(s), where `before` is t(s - 1) and `powers` are those of q, which are the same for every s.
+// The powers of q modulo p, which are the same for every dimension.
+pub fn powers(degree: u32, p: u32, q: u32) -> [u32; COORDINATES]
+    requires { ⌜ LawfulDegree degree × HasDegree p degree ⌝ }
+    ensures { λ w. ⌜ PowersOf q p (2 ^ degree) w ⌝ }
+{
+    powers_of(q, p, 1 << degree)
+}
+
+// t(s), where `before` is t(s - 1) and `powers` are those of q.
 pub fn next_t(
     degree: u32,
     p: u32,
@@ -47,7 +55,7 @@ pub fn t_at(degree: u32, p: u32, q: u32, s: usize, bound: usize) -> u32
     requires { ⌜ LawfulDimension s ⌝ }
     ensures { λ t. ⌜ t ≡ tValue degree p q s ⌝ }
 {
-    let powers = powers_of(q, p, 1 << degree);
+    let powers = powers(degree, p, q);
     let mut value = 0;
     let mut dimension = 1;
     while dimension < s {

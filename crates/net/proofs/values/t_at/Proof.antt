@@ -5,9 +5,7 @@ use native.Mathlib.Nat.{add-sub-cancel}
 use native.Mathlib.Omega.{arith}
 use borrow.Author.Needs.{needs}
 use Rattle.definitions.specs.Net.{tValue}
-use Rattle.number_laws.specs.Bounds.{lead-is}
 use Rattle.net_laws.specs.TValue.{tValue-first}
-use Rattle.net.proofs.ValueLaws.{modulus-of}
 use Rattle.net.proofs.values.t_at.Statement.{statement}
 use Rattle.net.proofs.values.t_at.Tie as tie
 
@@ -26,7 +24,7 @@ next-t-requires : tie.Need-next-t-requires Invariant measure
 next-t-requires c κs =
     let at = c .before .before .before .before in
     let l = c .before .before .loop in
-    let powers = rw (lead-is (at .pre .0 .0)) at (c .before .before .before .powers-of .ensures) in
+    let powers = c .before .before .before .powers .ensures in
     let known : l .value ≡ tValue (at .args .degree) (at .args .p) (at .args .q) (l .dimension + 1 - 1) = rw add-sub-cancel (l .inv .2) in
     (at .pre .0, (at .pre .1 .0, (powers, ((omega (arith, l .inv .0), omega (arith, at .pre .1 .1 .high)), known))))
 
@@ -45,8 +43,7 @@ t-at-spec =
     (tie.spec
     Invariant
     measure
-    (λ c. omega (arith, c .pre .0 .0 .high))
-    (λ c κs. modulus-of (c .pre .0 .0) (c .pre .0 .1))
+    (λ c κs. c .pre .0)
     loop-holds
     (λ c. search needs)
     next-t-requires
