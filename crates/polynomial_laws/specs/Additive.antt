@@ -9,8 +9,8 @@ use native.Mathlib.Decide.{decLt}
 use lib.Arith.{lt-one}
 use lib.Bits.{xor-mod}
 use Rattle.definitions.specs.Polynomial.{_⊕_}
 use Rattle.polynomial_laws.specs.Sum.{⊕-def, ⊕-self, ⊕-shr, ⊕-sums}
-use Rattle.polynomial_laws.specs.Degree.{HasDegree, power-degree, leading-one, top-cancels}
+use Rattle.polynomial_laws.specs.Degree.{HasDegree, power-degree, leading-one, leads-cancel}
 
 abbrev pub Additive : (ℕ → ℕ) → Type 0
 Additive f = (a b : ℕ) → f (a ⊕ b) ≡ f a ⊕ f b
@@ -32,10 +32,10 @@ additive-agree f g f-sums g-sums (suc d) powers v small = at (decLt v (2 ^ d)) (
     at : Dec (v < 2 ^ d) → ((u : ℕ) → u < 2 ^ d → f u ≡ g u) → f v ≡ g v
     at (yes l) below = below v l
     at (no l) below =
-        let top : HasDegree v d = record { least = omega arith; most = omega (arith, pow-suc 2 d) } in
+        let degree-v : HasDegree v d = record { least = omega arith; most = omega (arith, pow-suc 2 d) } in
         let rest = v ⊕ 2 ^ d in
         let back : rest ⊕ 2 ^ d ≡ v = simp ⊕-sums in
-        ap f (sym back) ∙ f-sums rest (2 ^ d) ∙ ap₂ _⊕_ (below rest (top-cancels top (power-degree d))) (powers d (omega arith))
+        ap f (sym back) ∙ f-sums rest (2 ^ d) ∙ ap₂ _⊕_ (below rest (leads-cancel degree-v (power-degree d))) (powers d (omega arith))
         ∙ sym (g-sums rest (2 ^ d)) ∙ ap g back
 
 -- ---- the digit at a place
@@ -53,4 +53,4 @@ digitAt-small k v small = rw (div-eq-of-lt small)
 
 pub digitAt-leading : (k v : ℕ) → HasDegree v k → digitAt k v ≡ 1
 unfolding digitAt
-digitAt-leading k v top = rw (leading-one top)
+digitAt-leading k v h = rw (leading-one h)
