@@ -7,7 +7,7 @@ pub mod Net
 pub mod Smallest
 pub mod Share
 pub mod Size
-pub mod Search
+pub mod Lightest
 pub mod Weight
 pub mod Inverse
 pub mod TValue

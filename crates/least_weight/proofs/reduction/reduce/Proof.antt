@@ -1,28 +1,28 @@
--- `net::search::reduce` meets its contract: before each turn v is r reduced by all vectors but the last `left`. Assumes nothing.
+-- `reduction::reduce` meets its contract: before each turn v is the digit row reduced by all vectors but the last `left`. Assumes nothing.
 use mathlib.Core.Path.{_≡_}
 use mathlib.Core.Logic.{⊎-elim}
 use Prim.Native.Nat.{_-_, _≤_}
 use native.Mathlib.Omega.{arith}
 use Rattle.net_laws.specs.Reduction.{reduce}
-use Rattle.net.specs.Search.{newest}
-use Rattle.net.proofs.SearchLaws.{reduce-start, reduce-more}
-use Rattle.net.proofs.search.reduce.Statement.{statement}
-use Rattle.net.proofs.search.reduce.Tie as tie
+use Rattle.least_weight.specs.Weight.{newest}
+use Rattle.least_weight.proofs.WeightLaws.{reduce-start, reduce-more}
+use Rattle.least_weight.proofs.reduction.reduce.Statement.{statement}
+use Rattle.least_weight.proofs.reduction.reduce.Tie as tie
 
 abbrev Invariant : tie.InvT-loop
-Invariant basis taken row v₀ left₀ v left = (left ≤ taken) × (v ≡ reduce (newest basis (taken - left)) row)
+Invariant basis taken digits v₀ left₀ v left = (left ≤ taken) × (v ≡ reduce (newest basis (taken - left)) digits)
 
 abbrev measure : tie.MeasureT-loop
-measure basis taken row v₀ left₀ v left = left
+measure basis taken digits v₀ left₀ v left = left
 
 loop-holds : tie.Need-loop-holds Invariant measure
-loop-holds c = (omega arith, reduce-start (c .args .basis .now) (c .args .taken) (c .args .row))
+loop-holds c = (omega arith, reduce-start (c .args .basis .now) (c .args .taken) (c .args .digits))
 
 loop-again : tie.Need-loop-again Invariant measure
 loop-again c =
     let l = c .before .before .before .loop in
     let a = c .before .before .before .before .args in
-    (omega arith, reduce-more (a .basis .now) (a .taken) (l .left) (a .row) (l .v) (c .if1 .v) (omega arith) (l .inv .0) (l .inv .1) (⊎-elim (λ w. omega arith) (λ w. omega arith) (c .if1 .came)))
+    (omega arith, reduce-more (a .basis .now) (a .taken) (l .left) (a .digits) (l .v) (c .if1 .v) (omega arith) (l .inv .0) (l .inv .1) (⊎-elim (λ w. omega arith) (λ w. omega arith) (c .if1 .came)))
 
 returns : tie.Need-returns Invariant measure
 returns c = let all : c .before .before .args .taken - c .before .loop .left ≡ c .before .before .args .taken = omega arith in rw all at (c .before .loop .inv .1)
