@@ -1,6 +1,6 @@
 -- Laws that keep the definitions honest: what a reader would check first. By the definitions' own cases. Assumes nothing.
-use Rattle.definitions.specs.Base.{Bool, true, false, List, [], _∷_, ℕ, zero, suc, _+_, eqb, length, Refusal, PageRequest, Page, NoPage, NotWritten}
-use mathlib.Core.Path.{_≡_, refl}
+use Rattle.definitions.specs.Base.{Bool, true, false, List, ℕ, zero, suc, _+_, eqb, length}
+use mathlib.Core.Path.{_≡_}
 use mathlib.Core.Bool.{and-eq-true-iff}
 use Prim.Native.Nat.{_≤_, _<_}
 use native.Mathlib.Omega.{arith}
@@ -10,34 +10,6 @@ use Rattle.definitions.specs.Number.{first, all}
 use Rattle.definitions.specs.Generator.{expansion, linear, linearQuotients}
 use Rattle.definitions.specs.Net.{isNet, tValue}
 use Rattle.definitions.specs.Pages.{Cut, rest, page, more}
-use Rattle.definitions.specs.Answers.{Situation, unless}
-use Rattle.definitions.specs.Calls.{paging, pageAnswer, pageSlice, pageRows, furtherRow, pointing, pointsAnswer, pointsSlice}
-
--- What holds of two answers to one list of situations, refused alike or both given.
-pub unless-both : {A B : Type 0} (P : A → B → Type 0) (l : List Situation) (refuse : Refusal → A) (value : A) (refuse′ : Refusal → B) (value′ : B)
-    → ((r : Refusal) → P (refuse r) (refuse′ r)) → P value value′ → P (unless l refuse value) (unless l refuse′ value′)
-unfolding unless
-unless-both P [] refuse value refuse′ value′ refused given = given
-unless-both P (s ∷ l) refuse value refuse′ value′ refused given = go (s .applies) (unless-both P l refuse value refuse′ value′ refused given)
-  where
-    go : (b : Bool) → P (unless l refuse value) (unless l refuse′ value′)
-        → P (elim b [ true ↦ refuse (s .refusal) | false ↦ unless l refuse value ]) (elim b [ true ↦ refuse′ (s .refusal) | false ↦ unless l refuse′ value′ ])
-    go true ih = refused (s .refusal)
-    go false ih = ih
-
--- A refused page leaves the slice as it was.
-pub refused-page-keeps : (r : PageRequest) (s : List ℕ) (n : Refusal) → pageAnswer r s ≡ NoPage n → pageSlice r s ≡ s
-unfolding pageAnswer pageSlice
-refused-page-keeps r s n =
-    unless-both (λ a o. a ≡ NoPage n → o ≡ s) (paging r s) NoPage _ (λ (k : Refusal). s) _ (λ k e. refl)
-    (λ (e : Page (length (pageRows r s)) (furtherRow r s) ≡ NoPage n). let z : _≡_ {A = ℕ} 0 1 = cc in absurd (omega arith))
-
--- A refused call for points leaves the slice as it was.
-pub refused-points-keep : (m p q i : ℕ) (s : List ℕ) (n : Refusal) → pointsAnswer m p q i s ≡ NotWritten n → pointsSlice m p q i s ≡ s
-unfolding pointsAnswer pointsSlice
-refused-points-keep m p q i s n =
-    unless-both (λ a o. a ≡ NotWritten n → o ≡ s) (pointing m p q i) NotWritten _ (λ (k : Refusal). s) _ (λ k e. refl)
-    (λ e. let z : _≡_ {A = ℕ} 0 1 = cc in absurd (omega arith))
 
 -- A page that says that nothing follows has every row above its cut.
 pub end-has-all : {X : Type 0} (key : X → List ℕ) (at : Cut) (k : ℕ) (l : List X) → more key at k l ≡ false → page key at k l ≡ rest key at l

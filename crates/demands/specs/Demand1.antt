@@ -1,39 +1,37 @@
 -- Demand 1. For every public call and every input: the refusal numbers that a call can give are the listed ones; number n is given exactly when
--- situation n applies and none with a lower number does; the value is given exactly when none applies; a refusing call changes no lent slice.
--- Each situation is shown as document 01's table has it. Assumes nothing.
-use mathlib.Core.Path.{_≡_, refl, sym, _∙_}
+-- situation n applies and none listed before it does; the value is given exactly when none applies; a refusing call changes no lent slice.
+-- Each call's numbers ascend, so it is the lowest number that is given. Each situation is shown as document 01's table has it. Assumes nothing.
+use mathlib.Core.Path.{_≡_, refl}
 use mathlib.Core.Logic.{_↔_}
-use mathlib.Core.Bool.{true, false, not}
-use mathlib.Core.List.{List, [], _∷_, map}
+use mathlib.Core.Bool.{Bool, true, false, not}
+use mathlib.Core.List.{List, [], _∷_, map, List·Memᴰ}
 use Prim.Native.Nat.{ℕ, _-_, _<_}
 use native.Mathlib.Omega.{arith}
 use lib.Dec.{eqb, ltb}
 use lib.ListN.{length, getD}
-use Rattle.definitions.specs.Answers.{Situation, situation, judgementValues, uniformityValues, pageValues, pointsValues, openingValues, lookupValues}
-use Rattle.definitions.specs.Generator.{lawfulDegree, wellFormed, period, primitive, linearQuotients, coprimeStep, step}
-use Rattle.definitions.specs.Net.{tValue}
+use Rattle.definitions.specs.Answers.{Situation, situation, refusalNumber, unless, judgementValues, uniformityValues, pageValues, pointsValues, openingValues}
+use Rattle.definitions.specs.Answers.{lookupValues}
+use Rattle.definitions.specs.Generator.{lawfulDegree, wellFormed, period, primitive, linearQuotients, coprimeStep}
 use Rattle.definitions.specs.Ranking.{lawfulTop, lawfulDimension, rowWidth}
-use Rattle.definitions.specs.Calls.{pairSituations, judging, judgement, measuring, uniformity, positionSituations, paging, pageRows, furtherRow, pageAnswer, pageSlice, pointing, wordCount, pointsAnswer, pointsSlice}
-use Rattle.definitions.specs.Catalogue.{byteAt, catalogueForm, opening, entryAt, entryOf, looking, lookupNumbers, lookupPart, readerTop}
-use Rattle.definitions.specs.Honest.{refused-page-keeps, refused-points-keep, unless-both}
+use Rattle.definitions.specs.Calls.{pairSituations, judging, judgement, measuring, uniformity, selectionOf, pageRequest, positionSituations, paging, pageAnswer}
+use Rattle.definitions.specs.Calls.{pageSlice, pointing, pointsAnswer, pointsSlice}
+use Rattle.definitions.specs.Catalogue.{catalogueForm, opening, entryOf, looking, lookupNumbers, lookupPart, readerTop}
 use Rattle.definitions.specs.declared.Refusal.{Refusal}
 use Rattle.definitions.specs.declared.Refusal.the-variants.{IllFormedCatalogue}
+use Rattle.definitions.specs.declared.Selection.{Selection}
 use Rattle.definitions.specs.declared.Position.{Position}
 use Rattle.definitions.specs.declared.Position.the-variants.{Start, After}
 use Rattle.definitions.specs.declared.PageRequest.{PageRequest}
-use Rattle.definitions.specs.declared.Judgement.{Judgement}
-use Rattle.definitions.specs.declared.Judgement.the-variants.{Accepted, Rejected}
-use Rattle.definitions.specs.declared.Uniformity.{Uniformity}
-use Rattle.definitions.specs.declared.Uniformity.the-variants.{Value, Undefined}
-use Rattle.definitions.specs.declared.PageAnswer.{PageAnswer}
-use Rattle.definitions.specs.declared.PageAnswer.the-variants.{Page, NoPage}
-use Rattle.definitions.specs.declared.PointsAnswer.{PointsAnswer}
-use Rattle.definitions.specs.declared.PointsAnswer.the-variants.{Written, NotWritten}
-use Rattle.definitions.specs.declared.Opening.{Opening}
-use Rattle.definitions.specs.declared.Opening.the-variants.{Entries, Closed}
-use Rattle.definitions.specs.declared.Lookup.{Lookup}
-use Rattle.definitions.specs.declared.Lookup.the-variants.{Body, NoBody}
-use Rattle.demands.specs.Situations.{applies, numbersOf, ascend, given, Lowest, unless-map, given-exactly, given-none}
+use Rattle.definitions.specs.declared.Judgement.the-variants.{Rejected}
+use Rattle.definitions.specs.declared.Uniformity.the-variants.{Undefined}
+use Rattle.definitions.specs.declared.PageAnswer.the-variants.{NoPage}
+use Rattle.definitions.specs.declared.PointsAnswer.the-variants.{NotWritten}
+use Rattle.definitions.specs.declared.Opening.the-variants.{Closed}
+use Rattle.definitions.specs.declared.Lookup.the-variants.{NoBody}
+use Rattle.answer_laws.specs.Unless.{unless-both, unless-refused, told-refused}
+use Rattle.answer_laws.specs.Lent.{page-keeps, points-keep}
+use Rattle.demands.specs.Situations.{applies, numbersOf, distinct, toldApart, ascend, given, FirstToApply, Lowest, given-exactly, given-none}
+use Rattle.demands.specs.Situations.{given-listed, first-is-lowest}
 
 -- The number of an answer, by the values that it holds: that of its refusal, 0 where it has none.
 abbrev pub numberOf : List ℕ → ℕ
@@ -41,136 +39,168 @@ numberOf values = getD values 0 0
 
 -- An answer's number follows the situations: n is given exactly in its situation, 0 exactly where none applies, and only listed numbers are given.
 pub record Exact (l : List Situation) (number : ℕ) : Type 0 where
-  pub each : (n : ℕ) → 0 < n → (number ≡ n) ↔ Lowest l n
+  pub each : (n : ℕ) → 0 < n → (number ≡ n) ↔ FirstToApply l n
   pub none : (number ≡ 0) ↔ ((n : ℕ) → applies l n ≡ false)
+  pub only : 0 < number → List·Memᴰ number (numbersOf l)
 
-exact : (l : List Situation) → ascend 0 (numbersOf l) ≡ true → (number : ℕ) → number ≡ given l → Exact l number
-exact l a number e =
-    record {
-      each = λ n h. (λ (d : number ≡ n). given-exactly l a n h .0 (sym e ∙ d), λ (w : Lowest l n). e ∙ given-exactly l a n h .1 w);
-      none = (λ (d : number ≡ 0). given-none l a .0 (sym e ∙ d), λ (f : (n : ℕ) → applies l n ≡ false). e ∙ given-none l a .1 f);
-    }
+-- Where several situations apply, the lowest number is given.
+pub record LowestGiven (l : List Situation) (number : ℕ) : Type 0 where
+  pub each : (n : ℕ) → 0 < n → (number ≡ n) ↔ Lowest l n
+
+-- So it is of an answer of any kind whose values begin with the refusal's number, or 0.
+exact : {A : Type 0} (values : A → List ℕ) (l : List Situation) (refuse : Refusal → A) (value : A) → toldApart l ≡ true
+    → ((r : Refusal) → numberOf (values (refuse r)) ≡ refusalNumber r) → numberOf (values value) ≡ 0 → Exact l (numberOf (values (unless l refuse value)))
+unfolding given
+exact values l refuse value apart refused zero =
+    rw same (record { each = given-exactly l apart; none = given-none l apart; only = given-listed l apart })
+  where
+    same : numberOf (values (unless l refuse value)) ≡ given l
+    same = unless-both (λ a n. numberOf (values a) ≡ n) l refuse value refusalNumber 0 refused zero
+
+lowest : {l : List Situation} {number : ℕ} → Exact l number → ascend 0 (numbersOf l) ≡ true → LowestGiven l number
+lowest {l} {number} x a = record {
+  each = λ n h. (
+    λ (e : number ≡ n). first-is-lowest l a n .0 (x .each n h .0 e),
+    λ (w : Lowest l n). x .each n h .1 (first-is-lowest l a n .1 w),
+  );
+}
 
 -- ---- judging
 
-pub judging-uses : (m p q : ℕ) → numbersOf (judging m p q) ≡ 1 ∷ 3 ∷ 4 ∷ 5 ∷ 6 ∷ []
-unfolding judging pairSituations
-judging-uses m p q = refl
+module _ (m p q : ℕ) where
+  pub judging-uses : numbersOf (judging m p q) ≡ 1 ∷ 3 ∷ 4 ∷ 5 ∷ 6 ∷ []
+  unfolding judging pairSituations
+  judging-uses = refl
 
-pub judging-exact : (m p q : ℕ) → Exact (judging m p q) (numberOf (judgementValues (judgement m p q)))
-unfolding judging pairSituations judgement given
-judging-exact m p q = exact (judging m p q) refl _ (unless-map (λ (r : Judgement). numberOf (judgementValues r)) (judging m p q) Rejected (Accepted (step m p q)))
+  pub judging-exact : Exact (judging m p q) (numberOf (judgementValues (judgement m p q)))
+  unfolding judging pairSituations judgement
+  judging-exact = exact judgementValues (judging m p q) Rejected _ refl (λ r. refl) refl
 
-pub judging-situations : (m p q : ℕ) → map (applies (judging m p q)) (1 ∷ 3 ∷ 4 ∷ 5 ∷ 6 ∷ [])
-    ≡ not (lawfulDegree m) ∷ not (wellFormed m p q) ∷ not (primitive m p) ∷ not (linearQuotients p q) ∷ not (coprimeStep m p q) ∷ []
-unfolding judging pairSituations applies
-judging-situations m p q = refl
+  pub judging-lowest : LowestGiven (judging m p q) (numberOf (judgementValues (judgement m p q)))
+  unfolding judging pairSituations
+  judging-lowest = lowest judging-exact refl
+
+  pub judging-situations : map (applies (judging m p q)) (1 ∷ 3 ∷ 4 ∷ 5 ∷ 6 ∷ [])
+      ≡ not (lawfulDegree m) ∷ not (wellFormed m p q) ∷ not (primitive m p) ∷ not (linearQuotients p q) ∷ not (coprimeStep m p q) ∷ []
+  unfolding judging pairSituations applies
+  judging-situations = refl
 
 -- ---- a single t-value
 
-pub measuring-uses : (m p q s : ℕ) → numbersOf (measuring m p q s) ≡ 1 ∷ 2 ∷ 3 ∷ []
-unfolding measuring
-measuring-uses m p q s = refl
+module _ (m p q s : ℕ) where
+  pub measuring-uses : numbersOf (measuring m p q s) ≡ 1 ∷ 2 ∷ 3 ∷ []
+  unfolding measuring
+  measuring-uses = refl
 
-pub measuring-exact : (m p q s : ℕ) → Exact (measuring m p q s) (numberOf (uniformityValues (uniformity m p q s)))
-unfolding measuring uniformity given
-measuring-exact m p q s = exact (measuring m p q s) refl _ (unless-map (λ (r : Uniformity). numberOf (uniformityValues r)) (measuring m p q s) Undefined (Value (tValue m p q s)))
+  pub measuring-exact : Exact (measuring m p q s) (numberOf (uniformityValues (uniformity m p q s)))
+  unfolding measuring uniformity
+  measuring-exact = exact uniformityValues (measuring m p q s) Undefined _ refl (λ r. refl) refl
 
-pub measuring-situations : (m p q s : ℕ) → map (applies (measuring m p q s)) (1 ∷ 2 ∷ 3 ∷ [])
-    ≡ not (lawfulDegree m) ∷ not (lawfulDimension s) ∷ not (wellFormed m p q) ∷ []
-unfolding measuring applies
-measuring-situations m p q s = refl
+  pub measuring-lowest : LowestGiven (measuring m p q s) (numberOf (uniformityValues (uniformity m p q s)))
+  unfolding measuring
+  measuring-lowest = lowest measuring-exact refl
 
--- ---- a page
+  pub measuring-situations : map (applies (measuring m p q s)) (1 ∷ 2 ∷ 3 ∷ []) ≡ not (lawfulDegree m) ∷ not (lawfulDimension s) ∷ not (wellFormed m p q) ∷ []
+  unfolding measuring applies
+  measuring-situations = refl
 
--- The request at the start, and after a pair.
-abbrev pub asksFirst : ℕ → ℕ → PageRequest
-asksFirst m top = record { degree = m; top = top; position = Start }
+-- ---- a page, at the start and after a pair
 
-abbrev pub asksAfter : ℕ → ℕ → ℕ → ℕ → PageRequest
-asksAfter m top p q = record { degree = m; top = top; position = After p q }
+module _ (l : Selection) (s : List ℕ) where
+  pub paging-first-uses : numbersOf (paging (pageRequest l Start) s) ≡ 1 ∷ 2 ∷ 7 ∷ []
+  unfolding paging positionSituations
+  paging-first-uses = refl
 
-pub paging-first-uses : (m top : ℕ) (s : List ℕ) → numbersOf (paging (asksFirst m top) s) ≡ 1 ∷ 2 ∷ 7 ∷ []
-unfolding paging positionSituations
-paging-first-uses m top s = refl
+  pub paging-first-situations : map (applies (paging (pageRequest l Start) s)) (1 ∷ 2 ∷ 7 ∷ [])
+      ≡ not (lawfulDegree (l .degree)) ∷ not (lawfulTop (l .top)) ∷ ltb (length s) (rowWidth l) ∷ []
+  unfolding paging positionSituations applies
+  paging-first-situations = refl
 
-pub paging-after-uses : (m top p q : ℕ) (s : List ℕ) → numbersOf (paging (asksAfter m top p q) s) ≡ 1 ∷ 2 ∷ 3 ∷ 4 ∷ 5 ∷ 6 ∷ 7 ∷ []
-unfolding paging positionSituations pairSituations
-paging-after-uses m top p q s = refl
+  pub paging-after-uses : (p q : ℕ) → numbersOf (paging (pageRequest l (After p q)) s) ≡ 1 ∷ 2 ∷ 3 ∷ 4 ∷ 5 ∷ 6 ∷ 7 ∷ []
+  unfolding paging positionSituations pairSituations
+  paging-after-uses p q = refl
 
-paging-ascends : (r : PageRequest) (s : List ℕ) → ascend 0 (numbersOf (paging r s)) ≡ true
-unfolding paging positionSituations pairSituations
-paging-ascends r s = go (r .position)
-  where
-    go : (at : Position) → ascend 0 (numbersOf (paging (record { degree = r .degree; top = r .top; position = at }) s)) ≡ true
-    go Start = refl
-    go (After p q) = refl
+  pub paging-after-situations : (p q : ℕ) → map (applies (paging (pageRequest l (After p q)) s)) (1 ∷ 2 ∷ 3 ∷ 4 ∷ 5 ∷ 6 ∷ 7 ∷ [])
+      ≡ not (lawfulDegree (l .degree)) ∷ not (lawfulTop (l .top)) ∷ not (wellFormed (l .degree) p q) ∷ not (primitive (l .degree) p)
+      ∷ not (linearQuotients p q) ∷ not (coprimeStep (l .degree) p q) ∷ ltb (length s) (rowWidth l) ∷ []
+  unfolding paging positionSituations pairSituations applies
+  paging-after-situations p q = refl
 
-pub paging-exact : (r : PageRequest) (s : List ℕ) → Exact (paging r s) (numberOf (pageValues (pageAnswer r s)))
-unfolding pageAnswer given
-paging-exact r s = exact (paging r s) (paging-ascends r s) _ (unless-map (λ (r : PageAnswer). numberOf (pageValues r)) (paging r s) NoPage (Page (length (pageRows r s)) (furtherRow r s)))
+module _ (r : PageRequest) (s : List ℕ) where
+  -- One of the two lists of numbers, as the position is.
+  paging-numbers : (test : List ℕ → Bool) → test (1 ∷ 2 ∷ 7 ∷ []) ≡ true → test (1 ∷ 2 ∷ 3 ∷ 4 ∷ 5 ∷ 6 ∷ 7 ∷ []) ≡ true → test (numbersOf (paging r s)) ≡ true
+  unfolding paging positionSituations pairSituations
+  paging-numbers test first after = go (r .position)
+    where
+      go : (at : Position) → test (numbersOf (paging (pageRequest (selectionOf r) at) s)) ≡ true
+      go Start = first
+      go (After p q) = after
 
-pub paging-first-situations : (m top : ℕ) (s : List ℕ) → map (applies (paging (asksFirst m top) s)) (1 ∷ 2 ∷ 7 ∷ [])
-    ≡ not (lawfulDegree m) ∷ not (lawfulTop top) ∷ ltb (length s) (rowWidth top) ∷ []
-unfolding paging positionSituations applies
-paging-first-situations m top s = refl
+  pub paging-exact : Exact (paging r s) (numberOf (pageValues (pageAnswer r s)))
+  unfolding pageAnswer
+  paging-exact = exact pageValues (paging r s) NoPage _ (paging-numbers (λ l. distinct (0 ∷ l)) refl refl) (λ n. refl) refl
 
-pub paging-after-situations : (m top p q : ℕ) (s : List ℕ) → map (applies (paging (asksAfter m top p q) s)) (1 ∷ 2 ∷ 3 ∷ 4 ∷ 5 ∷ 6 ∷ 7 ∷ [])
-    ≡ not (lawfulDegree m) ∷ not (lawfulTop top) ∷ not (wellFormed m p q) ∷ not (primitive m p) ∷ not (linearQuotients p q) ∷ not (coprimeStep m p q)
-    ∷ ltb (length s) (rowWidth top) ∷ []
-unfolding paging positionSituations pairSituations applies
-paging-after-situations m top p q s = refl
+  pub paging-lowest : LowestGiven (paging r s) (numberOf (pageValues (pageAnswer r s)))
+  paging-lowest = lowest paging-exact (paging-numbers (ascend 0) refl refl)
 
-pub paging-keeps : (r : PageRequest) (s : List ℕ) (n : Refusal) → pageAnswer r s ≡ NoPage n → pageSlice r s ≡ s
-paging-keeps = refused-page-keeps
+  pub paging-keeps : (n : Refusal) → pageAnswer r s ≡ NoPage n → pageSlice r s ≡ s
+  paging-keeps n = page-keeps r s
 
 -- ---- points
 
-pub pointing-uses : (m p q i : ℕ) → numbersOf (pointing m p q i) ≡ 1 ∷ 3 ∷ 4 ∷ 5 ∷ 6 ∷ 8 ∷ []
-unfolding pointing judging pairSituations
-pointing-uses m p q i = refl
+module _ (m p q i : ℕ) where
+  pub pointing-uses : numbersOf (pointing m p q i) ≡ 1 ∷ 3 ∷ 4 ∷ 5 ∷ 6 ∷ 8 ∷ []
+  unfolding pointing judging pairSituations
+  pointing-uses = refl
 
-pub pointing-exact : (m p q i : ℕ) (s : List ℕ) → Exact (pointing m p q i) (numberOf (pointsValues (pointsAnswer m p q i s)))
-unfolding pointing judging pairSituations pointsAnswer given
-pointing-exact m p q i s = exact (pointing m p q i) refl _ (unless-map (λ (r : PointsAnswer). numberOf (pointsValues r)) (pointing m p q i) NotWritten (Written (wordCount m i s)))
+  pub pointing-situations : map (applies (pointing m p q i)) (1 ∷ 3 ∷ 4 ∷ 5 ∷ 6 ∷ 8 ∷ [])
+      ≡ not (lawfulDegree m) ∷ not (wellFormed m p q) ∷ not (primitive m p) ∷ not (linearQuotients p q) ∷ not (coprimeStep m p q)
+      ∷ ltb (period m - 1) i ∷ []
+  unfolding pointing judging pairSituations applies
+  pointing-situations = refl
 
-pub pointing-situations : (m p q i : ℕ) → map (applies (pointing m p q i)) (1 ∷ 3 ∷ 4 ∷ 5 ∷ 6 ∷ 8 ∷ [])
-    ≡ not (lawfulDegree m) ∷ not (wellFormed m p q) ∷ not (primitive m p) ∷ not (linearQuotients p q) ∷ not (coprimeStep m p q)
-    ∷ ltb (period m - 1) i ∷ []
-unfolding pointing judging pairSituations applies
-pointing-situations m p q i = refl
+  module _ (s : List ℕ) where
+    pub pointing-exact : Exact (pointing m p q i) (numberOf (pointsValues (pointsAnswer m p q i s)))
+    unfolding pointing judging pairSituations pointsAnswer
+    pointing-exact = exact pointsValues (pointing m p q i) NotWritten _ refl (λ r. refl) refl
 
-pub pointing-keeps : (m p q i : ℕ) (s : List ℕ) (n : Refusal) → pointsAnswer m p q i s ≡ NotWritten n → pointsSlice m p q i s ≡ s
-pointing-keeps = refused-points-keep
+    pub pointing-lowest : LowestGiven (pointing m p q i) (numberOf (pointsValues (pointsAnswer m p q i s)))
+    unfolding pointing judging pairSituations
+    pointing-lowest = lowest pointing-exact refl
+
+    pub pointing-keeps : (n : Refusal) → pointsAnswer m p q i s ≡ NotWritten n → pointsSlice m p q i s ≡ s
+    pointing-keeps n = points-keep m p q i s
 
 -- ---- the catalogue
 
-pub opening-exact : (s : List ℕ) → Exact (situation (not (catalogueForm s)) IllFormedCatalogue ∷ []) (numberOf (openingValues (opening s)))
-unfolding opening given
-opening-exact s = exact (situation (not (catalogueForm s)) IllFormedCatalogue ∷ []) refl _
-    (unless-map (λ (r : Opening). numberOf (openingValues r)) (situation (not (catalogueForm s)) IllFormedCatalogue ∷ []) Closed (Entries (byteAt s 0)))
+-- Opening has one situation: 9.
+abbrev pub formSituation : List ℕ → List Situation
+formSituation s = situation (not (catalogueForm s)) IllFormedCatalogue ∷ []
 
-pub looking-uses : (s : List ℕ) (m : ℕ) → numbersOf (looking s m) ≡ 1 ∷ 9 ∷ 10 ∷ []
-unfolding looking
-looking-uses s m = refl
+pub opening-exact : (s : List ℕ) → Exact (formSituation s) (numberOf (openingValues (opening s)))
+unfolding opening
+opening-exact s = exact openingValues (formSituation s) Closed _ refl (λ r. refl) refl
 
-pub looking-exact : (s : List ℕ) (m : ℕ) → Exact (looking s m) (numberOf (lookupValues (lookupNumbers s m)))
-unfolding looking lookupNumbers given
-looking-exact s m =
-    exact (looking s m) refl _ (unless-map (λ (r : Lookup). numberOf (lookupValues r)) (looking s m) NoBody (Body (entryAt s (entryOf s m) .top) (entryAt s (entryOf s m) .rows)))
+module _ (s : List ℕ) (m : ℕ) where
+  pub looking-uses : numbersOf (looking s m) ≡ 1 ∷ 9 ∷ 10 ∷ []
+  unfolding looking
+  looking-uses = refl
 
-pub looking-situations : (s : List ℕ) (m : ℕ) → map (applies (looking s m)) (1 ∷ 9 ∷ 10 ∷ [])
-    ≡ not (lawfulDegree m) ∷ not (catalogueForm s) ∷ eqb (entryOf s m) (byteAt s 0) ∷ []
-unfolding looking applies
-looking-situations s m = refl
+  pub looking-exact : Exact (looking s m) (numberOf (lookupValues (lookupNumbers s m)))
+  unfolding looking lookupNumbers
+  looking-exact = exact lookupValues (looking s m) NoBody _ refl (λ r. refl) refl
 
--- Refused, the part is empty, and a reader has no rows and T = 0.
-pub looking-empty : (s : List ℕ) (m : ℕ) (n : Refusal) → lookupNumbers s m ≡ NoBody n → (lookupPart s m ≡ []) × (readerTop s m ≡ 0)
-unfolding lookupNumbers lookupPart readerTop
-looking-empty s m n e = (
-  unless-both (λ a o. a ≡ NoBody n → o ≡ []) (looking s m) NoBody _ (λ (k : Refusal). []) _ (λ k d. refl) clash e,
-  unless-both (λ a o. a ≡ NoBody n → o ≡ 0) (looking s m) NoBody _ (λ (k : Refusal). 0) _ (λ k d. refl) clash e,
-)
-  where
-    clash : {A : Type 0} → Body (entryAt s (entryOf s m) .top) (entryAt s (entryOf s m) .rows) ≡ NoBody n → A
-    clash d = let z : _≡_ {A = ℕ} 0 1 = cc in absurd (omega arith)
+  pub looking-lowest : LowestGiven (looking s m) (numberOf (lookupValues (lookupNumbers s m)))
+  unfolding looking
+  looking-lowest = lowest looking-exact refl
+
+  pub looking-situations : map (applies (looking s m)) (1 ∷ 9 ∷ 10 ∷ []) ≡ not (lawfulDegree m) ∷ not (catalogueForm s) ∷ eqb (entryOf s m) 0 ∷ []
+  unfolding looking applies
+  looking-situations = refl
+
+  -- Refused, the part is empty, and a reader has no rows and T = 0.
+  pub looking-empty : (n : Refusal) → lookupNumbers s m ≡ NoBody n → (lookupPart s m ≡ []) × (readerTop s m ≡ 0)
+  unfolding lookupNumbers lookupPart readerTop
+  looking-empty n e =
+      let t = told-refused (looking s m) e (λ d. let z : _≡_ {A = ℕ} 0 1 = cc in omega arith) in
+      (unless-refused (λ (k : Refusal). []) _ (t .1), unless-refused (λ (k : Refusal). 0) _ (t .1))

@@ -1,151 +1,272 @@
--- A call's situations by their numbers: `unless` refuses with n exactly when situation n applies and none with a lower number does,
--- and gives the value exactly when none applies. By the list, whose numbers ascend. Assumes nothing.
-use mathlib.Core.Path.{_≡_, refl, sym, _∙_, subst}
-use mathlib.Core.Logic.{_↔_}
-use mathlib.Core.Bool.{Bool, true, false, cond, _&&_, and-eq-true-iff, true≢false}
-use mathlib.Core.List.{List, [], _∷_, map, List·Memᴰ, List·Memᴰ·head, List·Memᴰ·tail}
-use Prim.Native.Nat.{ℕ, zero, suc, _≤_, _<_}
+-- Orders of refusals. Of situations with distinct numbers, n is given exactly when situation n applies and none listed before it does, and the value
+-- exactly when none applies. By which situation decides; two refusals are told apart by their numbers alone. Where the numbers ascend, the number
+-- given is the lowest that applies. Assumes nothing.
+use mathlib.Core.Path.{_≡_, refl, sym, _∙_}
+use mathlib.Core.Logic.{_↔_, _⊎_, inl, inr}
+use mathlib.Core.Bool.{Bool, true, false, cond, not, _&&_, _||_, and-eq-true-iff, false≢true}
+use mathlib.Core.List.{List, [], _∷_, map, List·Memᴰ, List·Memᴰ·head, List·Memᴰ·tail, List·Memᴰ·not-nil, List·Memᴰ·cases-cons}
+use Prim.Native.Nat.{ℕ, _<_}
 use native.Mathlib.Omega.{arith}
-use native.Mathlib.Decide.{decLe, ℕ-discrete}
-use native.Mathlib.Nat.{le-antisymm}
+use native.Mathlib.Decide.{ℕ-discrete}
 use lib.Dec.{eqb, ltb}
-use borrow.Author.Tests.{ltb-true, eqb-true, eq-eqb, ne-eqb}
+use borrow.Author.Tests.{ltb-true, eqb-true, eq-eqb, ne-eqb, not-true}
 use Rattle.definitions.specs.Answers.{refusalNumber, Situation, unless}
 use Rattle.definitions.specs.declared.Refusal.{Refusal}
+use Rattle.number_laws.specs.Truth.{truth-false, not-both, by-test}
+use Rattle.answer_laws.specs.Unless.{Decides, here, later, NoneApplies, at-end, passes, Outcome, is-refused, is-given, outcome, unless-refused, unless-given}
+use Rattle.answer_laws.specs.Unless.{told-refused}
+
+-- The number of a situation, and of each of a list.
+abbrev pub situationNumber : Situation → ℕ
+situationNumber s = refusalNumber (s .refusal)
+
+abbrev pub numbersOf : List Situation → List ℕ
+numbersOf l = map situationNumber l
 
 -- Situation n of the list applies.
 unfoldable pub applies : List Situation → ℕ → Bool
 applies [] n = false
-applies (s ∷ l) n = cond (eqb (refusalNumber (s .refusal)) n) (s .applies) (applies l n)
+applies (s ∷ l) n = cond (eqb (situationNumber s) n) (s .applies) (applies l n)
 
--- The numbers of the situations.
-abbrev pub numbersOf : List Situation → List ℕ
-numbersOf l = map (λ (s : Situation). refusalNumber (s .refusal)) l
+-- The numbers that are listed before n.
+abbrev pub listedBefore : ℕ → List ℕ → List ℕ
+listedBefore n [] = []
+listedBefore n (k ∷ l) = cond (eqb k n) [] (k ∷ listedBefore n l)
 
--- The numbers ascend, from above k.
-abbrev pub ascend : ℕ → List ℕ → Bool
-ascend k [] = true
-ascend k (n ∷ l) = ltb k n && ascend n l
+-- No number is listed twice.
+abbrev pub listed : ℕ → List ℕ → Bool
+listed n [] = false
+listed n (k ∷ l) = eqb k n || listed n l
+
+abbrev pub distinct : List ℕ → Bool
+distinct [] = true
+distinct (n ∷ l) = not (listed n l) && distinct l
+
+-- Distinct numbers, and none of them 0, which stands for no refusal.
+abbrev pub toldApart : List Situation → Bool
+toldApart l = distinct (0 ∷ numbersOf l)
 
 -- The number that is given: that of the refusal, or 0.
 unfoldable pub given : List Situation → ℕ
 unfolding unless
 given l = unless l refusalNumber 0
 
+-- Situation n applies and none listed before it does.
+pub record FirstToApply (l : List Situation) (n : ℕ) : Type 0 where
+  pub holds : applies l n ≡ true
+  pub none-before : (k : ℕ) → List·Memᴰ k (listedBefore n (numbersOf l)) → applies l k ≡ false
+
+-- ---- what is listed
+
+listed-in : {n : ℕ} {l : List ℕ} → List·Memᴰ n l → listed n l ≡ true
+listed-in {n} (List·Memᴰ·head {x = k} e) = rw (eq-eqb k n (sym e))
+listed-in {n} (List·Memᴰ·tail {x = k} {xs = l} i) = by-test (eqb k n) (λ t. rw t) (λ f. rw f (listed-in i))
+
+distinct-head : (n : ℕ) (l : List ℕ) → distinct (n ∷ l) ≡ true → (List·Memᴰ n l → ⊥) × (distinct l ≡ true)
+distinct-head n l e =
+    let p = and-eq-true-iff (not (listed n l)) (distinct l) .0 e in
+    (λ i. not-both (listed-in i) (not-true (listed n l) (p .0)), p .1)
+
+-- Only a listed number applies.
+applies-listed : (l : List Situation) (n : ℕ) → applies l n ≡ true → List·Memᴰ n (numbersOf l)
+unfolding applies
+applies-listed [] n e = absurd (false≢true e)
+applies-listed (s ∷ l) n e =
+    by-test (eqb (situationNumber s) n) (λ t. List·Memᴰ·head (sym (eqb-true (situationNumber s) n t))) (λ f. List·Memᴰ·tail (applies-listed l n (rw f at e)))
+
+applies-unlisted : (l : List Situation) (n : ℕ) → (List·Memᴰ n (numbersOf l) → ⊥) → applies l n ≡ false
+applies-unlisted l n h = truth-false (applies l n) (λ t. h (applies-listed l n t))
+
+decides-listed : {r : Refusal} {l : List Situation} → Decides r l → List·Memᴰ (refusalNumber r) (numbersOf l)
+decides-listed (here e) = List·Memᴰ·head refl
+decides-listed (later e d) = List·Memᴰ·tail (decides-listed d)
+
+none-applies : {l : List Situation} → NoneApplies l → (n : ℕ) → applies l n ≡ false
+unfolding applies
+none-applies at-end n = refl
+none-applies (passes {s = s} e a) n = by-test (eqb (situationNumber s) n) (λ t. rw t e) (λ f. rw f (none-applies a n))
+
+-- ---- one situation more, whose number is not listed behind it
+
+module _ (s : Situation) (l : List Situation) where
+  applies-self : applies (s ∷ l) (situationNumber s) ≡ s .applies
+  unfolding applies
+  applies-self = rw (eq-eqb (situationNumber s) (situationNumber s) refl)
+
+  applies-other : (n : ℕ) → (situationNumber s ≡ n → ⊥) → applies (s ∷ l) n ≡ applies l n
+  unfolding applies
+  applies-other n d = rw (ne-eqb (situationNumber s) n d)
+
+  before-self : listedBefore (situationNumber s) (numbersOf (s ∷ l)) ≡ []
+  before-self = rw (eq-eqb (situationNumber s) (situationNumber s) refl)
+
+  before-other : (n : ℕ) → (situationNumber s ≡ n → ⊥) → listedBefore n (numbersOf (s ∷ l)) ≡ situationNumber s ∷ listedBefore n (numbersOf l)
+  before-other n d = rw (ne-eqb (situationNumber s) n d)
+
+  -- One that applies is the first.
+  first-here : s .applies ≡ true → FirstToApply (s ∷ l) (situationNumber s)
+  first-here e = record {
+    holds = applies-self ∙ e;
+    none-before = λ k i. absurd (List·Memᴰ·not-nil (rw before-self at i));
+  }
+
+  first-is-here : s .applies ≡ true → (n : ℕ) → FirstToApply (s ∷ l) n → situationNumber s ≡ n
+  first-is-here e n w = go (ℕ-discrete (situationNumber s) n)
+    where
+      go : Dec (situationNumber s ≡ n) → situationNumber s ≡ n
+      go (yes d) = d
+      go (no d) = not-both (applies-self ∙ e) (w .none-before (situationNumber s) (rw (before-other n d) (List·Memᴰ·head refl)))
+
+  module _ (once : List·Memᴰ (situationNumber s) (numbersOf l) → ⊥) (e : s .applies ≡ false) where
+    -- One that does not apply changes nothing.
+    applies-skip : (n : ℕ) → applies (s ∷ l) n ≡ applies l n
+    applies-skip n = go (ℕ-discrete (situationNumber s) n)
+      where
+        go : Dec (situationNumber s ≡ n) → applies (s ∷ l) n ≡ applies l n
+        go (yes d) = rw (← d) (applies-self ∙ e ∙ sym (applies-unlisted l (situationNumber s) once))
+        go (no d) = applies-other n d
+
+    other : (n : ℕ) → applies l n ≡ true → situationNumber s ≡ n → ⊥
+    other n h d = once (rw (← d) at (applies-listed l n h))
+
+    first-later : (n : ℕ) → FirstToApply l n → FirstToApply (s ∷ l) n
+    first-later n w = record {
+      holds = applies-skip n ∙ w .holds;
+      none-before = λ k i. go k (List·Memᴰ·cases-cons (rw (before-other n (other n (w .holds))) at i));
+    }
+      where
+        go : (k : ℕ) → (k ≡ situationNumber s) ⊎ List·Memᴰ k (listedBefore n (numbersOf l)) → applies (s ∷ l) k ≡ false
+        go k (inl d) = rw d (applies-self ∙ e)
+        go k (inr i) = applies-skip k ∙ w .none-before k i
+
+    first-skip : (n : ℕ) → FirstToApply (s ∷ l) n → FirstToApply l n
+    first-skip n w =
+        let h : applies l n ≡ true = sym (applies-skip n) ∙ w .holds in
+        record {
+          holds = h;
+          none-before = λ k i. sym (applies-skip k) ∙ w .none-before k (rw (before-other n (other n h)) (List·Memᴰ·tail i));
+        }
+
+-- ---- the situation that decides is the first to apply
+
+decides-first : {r : Refusal} {l : List Situation} → Decides r l → distinct (numbersOf l) ≡ true → FirstToApply l (refusalNumber r)
+decides-first (here {s = s} {l = l} e) a = first-here s l e
+decides-first (later {s = s} {l = l} {r = r} e d) a =
+    let p = distinct-head (situationNumber s) (numbersOf l) a in
+    first-later s l (p .0) e (refusalNumber r) (decides-first d (p .1))
+
+first-decides : (l : List Situation) (n : ℕ) → FirstToApply l n → distinct (numbersOf l) ≡ true → (r : Refusal) × Decides r l × (refusalNumber r ≡ n)
+unfolding applies
+first-decides [] n w a = absurd (false≢true (w .holds))
+first-decides (s ∷ l) n w a =
+    let p = distinct-head (situationNumber s) (numbersOf l) a in
+    by-test (s .applies)
+    (λ e. (s .refusal, here e, first-is-here s l e n w))
+    (λ e. let x = first-decides l n (first-skip s l (p .0) e n w) (p .1) in (x .0, later e (x .1), x .2))
+
+module _ (l : List Situation) (apart : toldApart l ≡ true) where
+  no-zero : List·Memᴰ 0 (numbersOf l) → ⊥
+  no-zero = distinct-head 0 (numbersOf l) apart .0
+
+  once : distinct (numbersOf l) ≡ true
+  once = distinct-head 0 (numbersOf l) apart .1
+
+  -- THE ORDER: n is given exactly when situation n applies and none listed before it does.
+  pub given-exactly : (n : ℕ) → 0 < n → (given l ≡ n) ↔ FirstToApply l n
+  unfolding given
+  given-exactly n h = (to, from)
+    where
+      to : given l ≡ n → FirstToApply l n
+      to e =
+          let t = told-refused l e (λ z. omega arith) in
+          rw (t .2) at (decides-first (t .1) once)
+
+      from : FirstToApply l n → given l ≡ n
+      from w = let x = first-decides l n w once in unless-refused refusalNumber 0 (x .1) ∙ x .2
+
+  -- No refusal is given exactly when no situation applies.
+  pub given-none : (given l ≡ 0) ↔ ((n : ℕ) → applies l n ≡ false)
+  unfolding given
+  given-none = (λ e n. to e (outcome l) n, λ f. from f (outcome l))
+    where
+      to : given l ≡ 0 → Outcome l → (n : ℕ) → applies l n ≡ false
+      to e (is-refused d) n = absurd (no-zero (rw (sym (unless-refused refusalNumber 0 d) ∙ e) at (decides-listed d)))
+      to e (is-given a) n = none-applies a n
+
+      from : ((n : ℕ) → applies l n ≡ false) → Outcome l → given l ≡ 0
+      from f (is-refused {r = r} d) = not-both (decides-first d once .holds) (f (refusalNumber r))
+      from f (is-given a) = unless-given refusalNumber 0 a
+
+  -- Only listed numbers are given.
+  pub given-listed : 0 < given l → List·Memᴰ (given l) (numbersOf l)
+  given-listed h = applies-listed l (given l) (given-exactly (given l) h .0 refl .holds)
+
+-- ---- numbers that ascend: what is listed before n is what is lower
+
+-- The numbers ascend, from above k.
+abbrev pub ascend : ℕ → List ℕ → Bool
+ascend k [] = true
+ascend k (n ∷ l) = ltb k n && ascend n l
+
 -- Situation n applies and none with a lower number does.
 pub record Lowest (l : List Situation) (n : ℕ) : Type 0 where
   pub holds : applies l n ≡ true
-  pub first : (k : ℕ) → k < n → applies l k ≡ false
+  pub none-lower : (k : ℕ) → k < n → applies l k ≡ false
 
--- ---- laws
+ascend-head : (k n : ℕ) (l : List ℕ) → ascend k (n ∷ l) ≡ true → (k < n) × (ascend n l ≡ true)
+ascend-head k n l e =
+    let p = and-eq-true-iff (ltb k n) (ascend n l) .0 e in
+    (ltb-true k n (p .0), p .1)
 
--- What is made of an answer is what is made of its cases.
-pub unless-map : {A B : Type 0} (f : A → B) (l : List Situation) (refuse : Refusal → A) (value : A)
-    → f (unless l refuse value) ≡ unless l (λ (r : Refusal). f (refuse r)) (f value)
-unfolding unless
-unless-map f [] refuse value = refl
-unless-map f (s ∷ l) refuse value = go (s .applies) (unless-map f l refuse value)
+ascend-above : (k n : ℕ) (l : List ℕ) → ascend k l ≡ true → List·Memᴰ n l → k < n
+ascend-above k n (x ∷ l) e (List·Memᴰ·head d) = let a = ascend-head k x l e in omega arith
+ascend-above k n (x ∷ l) e (List·Memᴰ·tail i) = let a = ascend-head k x l e in omega (arith, ascend-above x n l (a .1) i)
+
+unlisted : (n : ℕ) (l : List ℕ) → (List·Memᴰ n l → ⊥) → listed n l ≡ false
+unlisted n [] h = refl
+unlisted n (k ∷ l) h = rw (ne-eqb k n (λ e. h (List·Memᴰ·head (sym e)))) (unlisted n l (λ i. h (List·Memᴰ·tail i)))
+
+pub ascend-distinct : (k : ℕ) (l : List ℕ) → ascend k l ≡ true → distinct (k ∷ l) ≡ true
+ascend-distinct k [] e = refl
+ascend-distinct k (n ∷ l) e =
+    let never : List·Memᴰ k (n ∷ l) → ⊥ = λ i. omega (arith, ascend-above k k (n ∷ l) e i) in
+    rw (unlisted k (n ∷ l) never) (ascend-distinct n l (ascend-head k n l e .1))
+
+before-lower : (j n k : ℕ) (l : List ℕ) → ascend j l ≡ true → List·Memᴰ n l → List·Memᴰ k (listedBefore n l) → k < n
+before-lower j n k (x ∷ l) e (List·Memᴰ·head d) i = absurd (List·Memᴰ·not-nil (rw (eq-eqb x n (sym d)) at i))
+before-lower j n k (x ∷ l) e (List·Memᴰ·tail u) i =
+    let a = ascend-head j x l e .1 in
+    let above : x < n = ascend-above x n l a u in
+    go (List·Memᴰ·cases-cons (rw (ne-eqb x n (λ d. omega arith)) at i)) above (before-lower x n k l a u)
   where
-    go : (b : Bool) → f (unless l refuse value) ≡ unless l (λ (r : Refusal). f (refuse r)) (f value)
-        → f (elim b [ true ↦ refuse (s .refusal) | false ↦ unless l refuse value ]) ≡ elim b [ true ↦ f (refuse (s .refusal)) | false ↦ unless l (λ (r : Refusal). f (refuse r)) (f value) ]
-    go true ih = refl
-    go false ih = ih
+    go : (k ≡ x) ⊎ List·Memᴰ k (listedBefore n l) → x < n → (List·Memᴰ k (listedBefore n l) → k < n) → k < n
+    go (inl d) h ih = omega arith
+    go (inr i) h ih = ih i
 
--- Only a listed number applies.
-pub applies-listed : (l : List Situation) (n : ℕ) → applies l n ≡ true → List·Memᴰ n (numbersOf l)
-unfolding applies
-applies-listed [] n e = absurd (true≢false (sym e))
-applies-listed (s ∷ l) n e = go (eqb (refusalNumber (s .refusal)) n) refl e (applies-listed l n)
+lower-before : (j n k : ℕ) (l : List ℕ) → ascend j l ≡ true → List·Memᴰ n l → List·Memᴰ k l → k < n → List·Memᴰ k (listedBefore n l)
+lower-before j n k (x ∷ l) e (List·Memᴰ·head d) (List·Memᴰ·head b) h = absurd (omega arith)
+lower-before j n k (x ∷ l) e (List·Memᴰ·head d) (List·Memᴰ·tail i) h = absurd (omega (arith, ascend-above x k l (ascend-head j x l e .1) i))
+lower-before j n k (x ∷ l) e (List·Memᴰ·tail u) (List·Memᴰ·head b) h = rw (ne-eqb x n (λ d. omega arith)) (List·Memᴰ·head b)
+lower-before j n k (x ∷ l) e (List·Memᴰ·tail u) (List·Memᴰ·tail i) h =
+    let a = ascend-head j x l e .1 in
+    let above : x < k = ascend-above x k l a i in
+    rw (ne-eqb x n (λ d. omega arith)) (List·Memᴰ·tail (lower-before x n k l a u i h))
+
+-- THE LOWEST: where the numbers ascend, the first to apply is the one with the lowest number.
+pub first-is-lowest : (l : List Situation) → ascend 0 (numbersOf l) ≡ true → (n : ℕ) → FirstToApply l n ↔ Lowest l n
+first-is-lowest l a n = (to, from)
   where
-    go : (b : Bool) → eqb (refusalNumber (s .refusal)) n ≡ b → cond b (s .applies) (applies l n) ≡ true → (applies l n ≡ true → List·Memᴰ n (numbersOf l))
-        → List·Memᴰ n (refusalNumber (s .refusal) ∷ numbersOf l)
-    go true b e ih = List·Memᴰ·head (sym (eqb-true (refusalNumber (s .refusal)) n b))
-    go false b e ih = List·Memᴰ·tail (ih e)
+    to : FirstToApply l n → Lowest l n
+    to w =
+        let u = applies-listed l n (w .holds) in
+        record {
+          holds = w .holds;
+          none-lower = λ k h.
+              truth-false (applies l k) (λ t. not-both t (w .none-before k (lower-before 0 n k (numbersOf l) a u (applies-listed l k t) h)));
+        }
 
--- Nothing at or below k applies where the numbers ascend from above k.
-none-below : (k : ℕ) (l : List Situation) → ascend k (numbersOf l) ≡ true → (n : ℕ) → n ≤ k → applies l n ≡ false
-unfolding applies
-none-below k [] a n h = refl
-none-below k (s ∷ l) a n h =
-    let p = and-eq-true-iff (ltb k (refusalNumber (s .refusal))) (ascend (refusalNumber (s .refusal)) (numbersOf l)) .0 a in
-    let b = ltb-true k (refusalNumber (s .refusal)) (p .0) in
-    rw (ne-eqb (refusalNumber (s .refusal)) n (λ (e : refusalNumber (s .refusal) ≡ n). omega arith)) (none-below (refusalNumber (s .refusal)) l (p .1) n (omega arith))
-
--- The number that is given, with what it says.
-pub data Given (l : List Situation) : ℕ → Type 0 where
-  value : ((k : ℕ) → applies l k ≡ false) → Given l 0
-  refused : {n : ℕ} → 0 < n → Lowest l n → Given l n
-
--- ---- one situation more
-
-module _ (s : Situation) (l : List Situation) where
-  applies-self : (n : ℕ) → refusalNumber (s .refusal) ≡ n → applies (s ∷ l) n ≡ s .applies
-  unfolding applies
-  applies-self n e = rw (eq-eqb (refusalNumber (s .refusal)) n e)
-
-  applies-other : (n : ℕ) → (refusalNumber (s .refusal) ≡ n → ⊥) → applies (s ∷ l) n ≡ applies l n
-  unfolding applies
-  applies-other n d = rw (ne-eqb (refusalNumber (s .refusal)) n d)
-
-  -- One that does not apply changes nothing, as its own number stands nowhere behind it.
-  applies-skip : s .applies ≡ false → ascend (refusalNumber (s .refusal)) (numbersOf l) ≡ true → (n : ℕ) → applies (s ∷ l) n ≡ applies l n
-  applies-skip e a n = go (ℕ-discrete (refusalNumber (s .refusal)) n)
-    where
-      go : Dec (refusalNumber (s .refusal) ≡ n) → applies (s ∷ l) n ≡ applies l n
-      go (yes d) = applies-self n d ∙ e ∙ sym (none-below (refusalNumber (s .refusal)) l a n (omega arith))
-      go (no d) = applies-other n d
-
-  -- One that applies is the lowest.
-  lowest-here : s .applies ≡ true → ascend (refusalNumber (s .refusal)) (numbersOf l) ≡ true → Lowest (s ∷ l) (refusalNumber (s .refusal))
-  lowest-here e a = record {
-    holds = applies-self (refusalNumber (s .refusal)) refl ∙ e;
-    first = λ k h. applies-other k (λ (d : refusalNumber (s .refusal) ≡ k). omega arith) ∙ none-below (refusalNumber (s .refusal)) l a k (omega arith);
-  }
-
-given-skip : (l k : List Situation) → ((n : ℕ) → applies k n ≡ applies l n) → {n : ℕ} → Given l n → Given k n
-given-skip l k e (value f) = value (λ n. e n ∙ f n)
-given-skip l k e (refused h w) = refused h (record { holds = e _ ∙ w .holds; first = λ j b. e j ∙ w .first j b })
-
-given-from : (k : ℕ) (l : List Situation) → ascend k (numbersOf l) ≡ true → Given l (given l)
-unfolding given unless applies
-given-from k [] a = value (λ n. refl)
-given-from k (s ∷ l) a = go (s .applies) refl (given-from (refusalNumber (s .refusal)) l (p .1))
-  where
-    p : (ltb k (refusalNumber (s .refusal)) ≡ true) × (ascend (refusalNumber (s .refusal)) (numbersOf l) ≡ true)
-    p = and-eq-true-iff (ltb k (refusalNumber (s .refusal))) (ascend (refusalNumber (s .refusal)) (numbersOf l)) .0 a
-
-    go : (b : Bool) → s .applies ≡ b → Given l (unless l refusalNumber 0)
-        → Given (s ∷ l) (elim b [ true ↦ refusalNumber (s .refusal) | false ↦ unless l refusalNumber 0 ])
-    go true e ih = refused {n = refusalNumber (s .refusal)} (omega (arith, ltb-true k (refusalNumber (s .refusal)) (p .0))) (lowest-here s l e (p .1))
-    go false e ih = given-skip l (s ∷ l) (applies-skip s l e (p .1)) ih
-
-lowest-unique : (l : List Situation) (n k : ℕ) → Lowest l n → Lowest l k → n ≤ k
-lowest-unique l n k a b = go (decLe n k)
-  where
-    go : Dec (n ≤ k) → n ≤ k
-    go (yes h) = h
-    go (no h) = absurd (true≢false (sym (b .holds) ∙ a .first k (omega arith)))
-
--- THE ORDER: of situations whose numbers ascend, refusal n is given exactly when situation n applies and none with a lower number does.
-pub given-exactly : (l : List Situation) → ascend 0 (numbersOf l) ≡ true → (n : ℕ) → 0 < n → (given l ≡ n) ↔ Lowest l n
-given-exactly l a n h = (λ (e : given l ≡ n). to (given l) e (given-from 0 l a), λ (w : Lowest l n). from w (given l) refl (given-from 0 l a))
-  where
-    to : (g : ℕ) → g ≡ n → Given l g → Lowest l n
-    to g e (value f) = absurd (omega arith)
-    to g e (refused k w) = subst (Lowest l) e w
-
-    from : Lowest l n → (g : ℕ) → given l ≡ g → Given l g → given l ≡ n
-    from w g e (value f) = absurd (true≢false (sym (w .holds) ∙ f n))
-    from w g e (refused k v) = e ∙ le-antisymm (lowest-unique l g n v w) (lowest-unique l n g w v)
-
--- No refusal is given exactly when no situation applies.
-pub given-none : (l : List Situation) → ascend 0 (numbersOf l) ≡ true → (given l ≡ 0) ↔ ((n : ℕ) → applies l n ≡ false)
-given-none l a = (λ (e : given l ≡ 0). to (given l) e (given-from 0 l a), λ (f : (n : ℕ) → applies l n ≡ false). from f (given l) refl (given-from 0 l a))
-  where
-    to : (g : ℕ) → g ≡ 0 → Given l g → (n : ℕ) → applies l n ≡ false
-    to g e (value f) = f
-    to g e (refused k w) = absurd (omega arith)
-
-    from : ((n : ℕ) → applies l n ≡ false) → (g : ℕ) → given l ≡ g → Given l g → given l ≡ 0
-    from f g e (value v) = e
-    from f g e (refused k w) = absurd (true≢false (sym (w .holds) ∙ f g))
+    from : Lowest l n → FirstToApply l n
+    from w = record {
+      holds = w .holds;
+      none-before = λ k i. w .none-lower k (before-lower 0 n k (numbersOf l) a (applies-listed l n (w .holds)) i);
+    }
