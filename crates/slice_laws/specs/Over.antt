@@ -8,7 +8,8 @@ use native.Mathlib.Nat.{add-zero, zero-add, add-assoc}
 use native.Mathlib.Numerals.{add-one}
 use native.Mathlib.Omega.{arith}
 use lib.ListN.{length, take, drop, set, getD, length-append, length-take, length-drop, take-append-drop, drop-of-length-le}
-use lib.Seq.{drop-at, take-at, drop-drop, drop-cons, take-set-le, drop-set-lt, set-split, getD-set-same, append-snoc, lt-length-set}
+use lib.Seq.{drop-at, take-at, drop-drop, drop-cons, append-snoc}
+use lib.Seq.{take-set-le, take-set-lt, drop-set-lt, set-split, set-append-left, getD-set-same, lt-length-set}
 use Rattle.definitions.specs.Number.{over}
 
 pub over-def : (at : ℕ) (v s : List ℕ) → over at v s ≡ take at s ++ v ++ drop (at + length v) s
@@ -59,6 +60,22 @@ pub over-next : (at b : ℕ) (text out : List ℕ) → at < length out → over 
 over-next at b text out h =
     rw (over-one at b out h, ← add-one at) (over-append at (b ∷ []) text out (omega arith))
 
+-- The first number is stored behind the others.
+pub over-before : (at b : ℕ) (text out : List ℕ) → at < length out → set (over (suc at) text out) at b ≡ over at (b ∷ text) out
+over-before at b text out h =
+    let behind = drop (suc at + length text) out in
+    let front : at < length (take (suc at) out) = rw length-take (omega arith) in
+    let stored : set (take (suc at) out ++ text ++ behind) at b ≡ set (take (suc at) out) at b ++ text ++ behind =
+    set-append-left (take (suc at) out ++ text) behind at b (simp length-append (omega arith))
+    ∙ ap (λ (l : List ℕ). l ++ behind) (set-append-left (take (suc at) out) text at b front) in
+    rw (
+      over-def (suc at) text out,
+      stored,
+      ← take-set-lt (suc at) out at b (omega arith),
+      ← drop-set-lt (suc at + length text) out at b (omega arith),
+      ← over-def (suc at) text (set out at b),
+    ) (over-next at b text out h)
+
 -- One number of a part, at the place of those that are left.
 pub over-turn : (at : ℕ) (word : List ℕ) (i : ℕ) (out : List ℕ) → i < length word → at + i < length out
     → over (at + (i + 1)) (drop (i + 1) word) (set out (at + i) (getD word i 0)) ≡ over (at + i) (drop i word) out
@@ -67,4 +84,3 @@ over-turn at word i out h k =
 
 pub over-end : (at : ℕ) (word : List ℕ) (i : ℕ) (out : List ℕ) → length word ≤ i → out ≡ over (at + i) (drop i word) out
 over-end at word i out h = sym (rw (drop-of-length-le word h) (over-nothing (at + i) out))
-
