@@ -84,3 +84,12 @@ over-turn at word i out h k =
 
 pub over-end : (at : ℕ) (word : List ℕ) (i : ℕ) (out : List ℕ) → length word ≤ i → out ≡ over (at + i) (drop i word) out
 over-end at word i out h = sym (rw (drop-of-length-le word h) (over-nothing (at + i) out))
+
+-- One writer behind another: the second finds room, and together they write both texts.
+module _ (at : ℕ) (a b out : List ℕ) where
+  pub over-then-room : {place : ℕ} {mid : List ℕ} → place ≡ at + length a → mid ≡ over at a out → at + length a + length b ≤ length out → place + length b ≤ length mid
+  over-then-room e k h = rw (e, k, length-over at a out (omega arith)) h
+
+  pub over-then : {place r : ℕ} {mid exit : List ℕ} → at + length a + length b ≤ length out → place ≡ at + length a → mid ≡ over at a out
+      → r ≡ place + length b → exit ≡ over place b mid → (r ≡ at + length (a ++ b)) × (exit ≡ over at (a ++ b) out)
+  over-then h e k u v = (rw length-append (omega arith), v ∙ rw (e, k) (over-append at a b out (omega arith)))
