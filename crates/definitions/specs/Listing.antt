@@ -13,6 +13,17 @@ newline = 10
 abbrev pub space : ℕ
 space = 32
 
+-- The digits 0 and 9 as bytes, and the most digits of a number that is read.
+abbrev pub digitZero : ℕ
+digitZero = 48
+
+abbrev pub digitNine : ℕ
+digitNine = 57
+
+abbrev pub mostDigits : ℕ
+mostDigits = 9
+
+-- What is asked where the line does not say it, and the largest page size.
 abbrev pub defaultTop : ℕ
 defaultTop = 5
 
@@ -37,22 +48,25 @@ unfoldable pub wordsOf : List ℕ → List (List ℕ)
 wordsOf [] = [] ∷ []
 wordsOf (b ∷ s) = elim (eqb b space) [ true ↦ [] ∷ wordsOf s | false ↦ extend b (wordsOf s) ]
 
--- A decimal digit, 0 being 48.
 abbrev pub isDigit : ℕ → Bool
-isDigit b = leb 48 b && leb b 57
+isDigit b = leb digitZero b && leb b digitNine
 
 -- A word is a number where it has 1 to 9 bytes, each a decimal digit.
 unfoldable pub isNumber : List ℕ → Bool
-isNumber w = leb 1 (length w) && (leb (length w) 9 && all isDigit w)
+isNumber w = leb 1 (length w) && (leb (length w) mostDigits && all isDigit w)
 
 -- The number with the digits w behind those of n.
 unfoldable pub decimalFrom : ℕ → List ℕ → ℕ
 decimalFrom n [] = n
-decimalFrom n (b ∷ w) = decimalFrom (n * 10 + (b - 48)) w
+decimalFrom n (b ∷ w) = decimalFrom (n * 10 + (b - digitZero)) w
 
 -- The numbers of a line; none where it cannot be read.
 unfoldable pub lineNumbers : List ℕ → List ℕ
 lineNumbers s = elim (all isNumber (wordsOf (lineOf s))) [ true ↦ map (decimalFrom 0) (wordsOf (lineOf s)) | false ↦ [] ]
+
+-- The same of a line that has at most k; none where it has more.
+unfoldable pub numbersWithin : ℕ → List ℕ → List ℕ
+numbersWithin k s = elim (leb (length (lineNumbers s)) k) [ true ↦ lineNumbers s | false ↦ [] ]
 
 -- Degree, or degree and T, or degree, T and page size.
 unfoldable pub asked : List ℕ → Line
@@ -74,7 +88,7 @@ letters text = map (λ (i : ℕ). code (charAt text i)) (numbers 0 (len text))
 -- The decimal digits of n, at most as many as `within`; n + 1 are enough.
 unfoldable pub decimalWithin : ℕ → ℕ → List ℕ
 decimalWithin zero n = []
-decimalWithin (suc within) n = elim (ltb n 10) [ true ↦ (48 + n) ∷ [] | false ↦ decimalWithin within (n / 10) ++ ((48 + n % 10) ∷ []) ]
+decimalWithin (suc within) n = elim (ltb n 10) [ true ↦ (digitZero + n) ∷ [] | false ↦ decimalWithin within (n / 10) ++ ((digitZero + n % 10) ∷ []) ]
 
 unfoldable pub decimal : ℕ → List ℕ
 decimal n = decimalWithin (suc n) n

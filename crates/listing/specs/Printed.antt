@@ -15,6 +15,7 @@ use borrow.Author.Tests.{eq-eqb, ne-eqb, lt-ltb, le-ltb, ltb-true, ltb-false}
 use Rattle.definitions.specs.Number.{join}
 use Rattle.definitions.specs.Listing.{rowText, pageText, pagesText, headerText, totalText, listText}
 use Rattle.definitions.specs.Ranking.{ranked}
+use Rattle.definitions.specs.declared.Selection.{Selection}
 
 -- What stands behind a row that `done` rows stand before: the line of its page, where the page or the list ends with it.
 unfoldable pub dueText : ℕ → ℕ → Bool → List ℕ
@@ -160,9 +161,10 @@ unfolding printedList
 pages-are-printed size [] h = rw (pages-end size 0 1 [] (omega arith), take-nil {A = List ℕ} size)
 pages-are-printed size (r ∷ rows) h = pages-printed size (length (r ∷ rows)) 0 (r ∷ rows) h (omega arith) (omega arith) ∙ rw (zero-mul size)
 
-pub list-is-printed : (m top size : ℕ) → 1 ≤ size → listText m top size ≡ headerText m top ++ printedList size (ranked m top) ++ totalText (length (ranked m top))
+pub list-is-printed : (l : Selection) (size : ℕ) → 1 ≤ size
+    → listText l size ≡ headerText (l .degree) (l .top) ++ printedList size (ranked l) ++ totalText (length (ranked l))
 unfolding listText
-list-is-printed m top size h = rw (pages-are-printed size (ranked m top) h)
+list-is-printed l size h = rw (pages-are-printed size (ranked l) h)
 
 -- The test that a program makes: within a page nothing stands behind a row, and at its end or the list's end its line does.
 module _ (size done : ℕ) (h : 1 ≤ size) where

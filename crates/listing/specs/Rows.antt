@@ -9,7 +9,8 @@ use native.Mathlib.Omega.{arith}
 use lib.ListN.{length, drop, getD, length-append, drop-of-length-le}
 use lib.Seq.{drop-cons}
 use Rattle.definitions.specs.Listing.{decimal, rowText, newline, space}
-use Rattle.listing.specs.Place.{over, over-append, length-over, then}
+use Rattle.definitions.specs.Number.{over}
+use Rattle.slice_laws.specs.Over.{over-append, length-over, over-then}
 
 -- What stands before number i of a row.
 unfoldable pub gap : ℕ → List ℕ
@@ -79,7 +80,7 @@ module _ (row : List ℕ) (i : ℕ) (h : i < length row) where
   left-turn-step at out room e f u v =
       let whole = left-turn-length in
       let two = length-append (gap i) (decimal (getD row i 0)) in
-      let both = then at (gap i) (decimal (getD row i 0)) out (omega arith) e f u v in
+      let both = over-then at (gap i) (decimal (getD row i 0)) out (omega arith) e f u v in
       let end = both .0 in (
         ap length (both .1) ∙ length-over at (gap i ++ decimal (getD row i 0)) out (omega arith),
         omega arith,

@@ -2,30 +2,40 @@
 // is the place behind it; where it does not, nothing is written and the answer is the place itself.
 ghost use mathlib.Core.Path.{_≡_};
 ghost use Rattle.definitions.specs.Listing.{decimal, headerText, rowText, pageText, totalText, refusedText, readLine};
-ghost use Rattle.listing.specs.Place.{placed, behind};
+ghost use Rattle.text.specs.Place.{placed, behind};
 
-mod input;
-mod line;
 pub mod printing;
-mod text;
+mod row;
 
 use definitions::Line;
-use input::find;
-use input::read_degree;
-use line::put_line;
-use line::put_long_line;
-use text::digits;
-use text::fits;
-use text::row_fits;
-use text::write_decimal;
-use text::write_row;
+use row::row_fits;
+use row::write_row;
+use text::put_line;
+use text::put_long_line;
+
+// What is asked where the line does not say it.
+const DEFAULT_TOP: u32 = 5;
+
+const DEFAULT_SIZE: u32 = 50;
+
+// The most numbers of a line: degree, top dimension and page size.
+const MOST_NUMBERS: usize = 3;
+
+// The largest page size.
+pub const LARGEST_SIZE: u32 = 1000;
 
 // The line that is asked with; what follows a newline is not read.
 pub fn read_line(input: &[u8]) -> Line
     ensures { λ r. ⌜ r ≡ readLine (now (input .entry)) ⌝ }
 {
-    let end = find(input, 0, b'\n');
-    read_degree(&input[..end])
+    let mut space = [0u32; MOST_NUMBERS];
+    let numbers: &mut [u32] = &mut space;
+    match line::read_numbers(input, numbers) {
+        1 => Line::Asked(numbers[0], DEFAULT_TOP, DEFAULT_SIZE),
+        2 => Line::Asked(numbers[0], numbers[1], DEFAULT_SIZE),
+        3 => Line::Asked(numbers[0], numbers[1], numbers[2]),
+        _ => Line::Unreadable,
+    }
 }
 
 // The decimal digits of n.
@@ -33,11 +43,7 @@ pub fn put_decimal(out: &mut [u8], at: usize, n: u32) -> usize
     ensures { λ r. ⌜ r ≡ behind at (decimal n) (now (out .entry)) ⌝ }
     ensures { λ _. ⌜ now (out .exit) ≡ placed at (decimal n) (now (out .entry)) ⌝ }
 {
-    if fits(out, at, digits(n)) {
-        write_decimal(out, at, n)
-    } else {
-        at
-    }
+    text::put_decimal(out, at, n)
 }
 
 // The line above a list.

@@ -1,7 +1,7 @@
 // The list row by row, for a program that has the rows in parts: what stands behind a row, and how the whole begins and ends.
 ghost use mathlib.Core.Path.{_≡_};
 ghost use Prim.Native.Nat.{_≤_, _<_};
-ghost use Rattle.listing.specs.Place.{placed, behind};
+ghost use Rattle.text.specs.Place.{placed, behind};
 ghost use Rattle.listing.specs.Printed.{dueText};
 use crate::put_page;
 

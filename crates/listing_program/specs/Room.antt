@@ -14,7 +14,9 @@ use Rattle.definitions.specs.Number.{numbers}
 use Rattle.definitions.specs.Listing.{decimal, rowText, pageText, newline, letters}
 use Rattle.listing.specs.Decimal.{decimal-digit, decimal-length-more}
 use Rattle.listing.specs.Lines.{long-length, page-line}
-use Rattle.listing.specs.Place.{over, placed, behind, placed-fits, behind-fits, then, then-room, length-over}
+use Rattle.definitions.specs.Number.{over}
+use Rattle.slice_laws.specs.Over.{over-then, over-then-room, length-over}
+use Rattle.text.specs.Place.{placed, behind, placed-fits, behind-fits}
 use Rattle.listing.specs.Printed.{dueText, due-true, due-false}
 use Rattle.listing.specs.Rows.{rowBytes, row-none, row-some}
 
@@ -90,8 +92,8 @@ module _ (at size done : ℕ) (further : Bool) (row text : List ℕ) (h : done <
       let first : at-place + length (rowText row) ≤ length text = omega arith in
       let end-is : end ≡ at-place + length (rowText row) = u ∙ rw f (behind-fits at-place (rowText row) text first) in
       let mid-is : mid ≡ over at-place (rowText row) text = v ∙ rw f (placed-fits at-place (rowText row) text first) in
-      let second : end + length (dueText size done further) ≤ length mid = then-room at-place (rowText row) (dueText size done further) text end-is mid-is room in
-      let both = then at-place (rowText row) (dueText size done further) text room end-is mid-is
+      let second : end + length (dueText size done further) ≤ length mid = over-then-room at-place (rowText row) (dueText size done further) text end-is mid-is room in
+      let both = over-then at-place (rowText row) (dueText size done further) text room end-is mid-is
       (x ∙ behind-fits end (dueText size done further) mid second) (y ∙ placed-fits end (dueText size done further) mid second) in
       let whole = length-append (rowText row) (dueText size done further) in
       let same : length exit ≡ length text = ap length (both .1) ∙ length-over at-place (stepText size done further row) text (omega arith) in

@@ -2,7 +2,7 @@
 ghost use mathlib.Core.Path.{_≡_};
 ghost use Prim.Native.Nat.{_*_, _+_, _≤_, _<_};
 ghost use lib.ListN.{length};
-ghost use Rattle.listing.specs.Place.{over};
+ghost use Rattle.definitions.specs.Number.{over};
 ghost use Rattle.listing_program.specs.Room.{freeFrom, stepText};
 use crate::program::Printed;
 use libc::STDOUT_FILENO;

@@ -10,7 +10,7 @@ use native.Mathlib.Omega.{arith}
 use lib.Dec.{leb}
 use lib.ListN.{length, take, drop, set, getD, length-append, length-take, length-drop, take-append-drop, drop-of-length-le, List·getD-append}
 use lib.Seq.{drop-at, take-at, take-all, take-take, take-append-le, getD-take, length-take-le}
-use lib.Seq.{drop-drop, drop-cons, take-set-le, drop-set-lt, set-split, getD-set-same, append-snoc, lt-length-set}
+use lib.Seq.{drop-drop, drop-cons, take-set-le, take-set-lt, drop-set-lt, set-split, set-append-left, getD-set-same, append-snoc, lt-length-set}
 use borrow.Author.Tests.{leb-true, leb-false}
 use Rattle.definitions.specs.Number.{over}
 use Rattle.number_laws.specs.Truth.{by-test}
@@ -114,6 +114,22 @@ pub over-next : (at b : ℕ) (text out : List ℕ) → at < length out → over 
 over-next at b text out h =
     rw (over-one at b out h, ← add-one at) (over-append at (b ∷ []) text out (omega arith))
 
+-- The first number is stored behind the others.
+pub over-before : (at b : ℕ) (text out : List ℕ) → at < length out → set (over (suc at) text out) at b ≡ over at (b ∷ text) out
+over-before at b text out h =
+    let behind = drop (suc at + length text) out in
+    let front : at < length (take (suc at) out) = rw length-take (omega arith) in
+    let stored : set (take (suc at) out ++ text ++ behind) at b ≡ set (take (suc at) out) at b ++ text ++ behind =
+    set-append-left (take (suc at) out ++ text) behind at b (simp length-append (omega arith))
+    ∙ ap (λ (l : List ℕ). l ++ behind) (set-append-left (take (suc at) out) text at b front) in
+    rw (
+      over-def (suc at) text out,
+      stored,
+      ← take-set-lt (suc at) out at b (omega arith),
+      ← drop-set-lt (suc at + length text) out at b (omega arith),
+      ← over-def (suc at) text (set out at b),
+    ) (over-next at b text out h)
+
 -- One number of a part, at the place of those that are left.
 pub over-turn : (at : ℕ) (word : List ℕ) (i : ℕ) (out : List ℕ) → i < length word → at + i < length out
     → over (at + (i + 1)) (drop (i + 1) word) (set out (at + i) (getD word i 0)) ≡ over (at + i) (drop i word) out
@@ -122,3 +138,12 @@ over-turn at word i out h k =
 
 pub over-end : (at : ℕ) (word : List ℕ) (i : ℕ) (out : List ℕ) → length word ≤ i → out ≡ over (at + i) (drop i word) out
 over-end at word i out h = sym (rw (drop-of-length-le word h) (over-nothing (at + i) out))
+
+-- One writer behind another: the second finds room, and together they write both texts.
+module _ (at : ℕ) (a b out : List ℕ) where
+  pub over-then-room : {place : ℕ} {mid : List ℕ} → place ≡ at + length a → mid ≡ over at a out → at + length a + length b ≤ length out → place + length b ≤ length mid
+  over-then-room e k h = rw (e, k, length-over at a out (omega arith)) h
+
+  pub over-then : {place r : ℕ} {mid exit : List ℕ} → at + length a + length b ≤ length out → place ≡ at + length a → mid ≡ over at a out
+      → r ≡ place + length b → exit ≡ over place b mid → (r ≡ at + length (a ++ b)) × (exit ≡ over at (a ++ b) out)
+  over-then h e k u v = (rw length-append (omega arith), v ∙ rw (e, k) (over-append at a b out (omega arith)))

@@ -1,7 +1,7 @@
 -- `listing::put_header` puts the line above a list. Assumes nothing.
 use borrow.Author.Needs.{needs}
 use Rattle.definitions.specs.Number.{numbers}
-use Rattle.listing.specs.Lines.{header-line}
+use Rattle.listing.specs.Texts.{header-line}
 use Rattle.listing.proofs.put_header.Statement.{statement}
 use Rattle.listing.proofs.put_header.Tie as tie
 

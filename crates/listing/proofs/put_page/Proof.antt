@@ -1,7 +1,7 @@
 -- `listing::put_page` puts the line below a page. Assumes nothing.
 use borrow.Author.Needs.{needs}
 use Rattle.definitions.specs.Number.{numbers}
-use Rattle.listing.specs.Lines.{page-line}
+use Rattle.listing.specs.Texts.{page-line}
 use Rattle.listing.proofs.put_page.Statement.{statement}
 use Rattle.listing.proofs.put_page.Tie as tie
 

@@ -1,7 +1,7 @@
 -- `listing::put_refused` puts the line of a refusal. Assumes nothing.
 use borrow.Author.Needs.{needs}
 use Rattle.definitions.specs.Number.{numbers}
-use Rattle.listing.specs.Lines.{refused-line}
+use Rattle.listing.specs.Texts.{refused-line}
 use Rattle.listing.proofs.put_refused.Statement.{statement}
 use Rattle.listing.proofs.put_refused.Tie as tie
 

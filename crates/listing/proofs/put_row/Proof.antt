@@ -7,7 +7,7 @@ use lib.ListN.{length}
 use borrow.Author.Needs.{needs}
 use borrow.Author.Tests.{leb-true, leb-false}
 use Rattle.definitions.specs.Listing.{rowText}
-use Rattle.listing.specs.Place.{put, not-put}
+use Rattle.text.specs.Place.{put, not-put}
 use Rattle.listing.proofs.put_row.Statement.{statement}
 use Rattle.listing.proofs.put_row.Tie as tie
 

@@ -1,7 +1,7 @@
 -- `listing::put_total` puts the line below a list. Assumes nothing.
 use borrow.Author.Needs.{needs}
 use Rattle.definitions.specs.Number.{numbers}
-use Rattle.listing.specs.Lines.{total-line}
+use Rattle.listing.specs.Texts.{total-line}
 use Rattle.listing.proofs.put_total.Statement.{statement}
 use Rattle.listing.proofs.put_total.Tie as tie
 

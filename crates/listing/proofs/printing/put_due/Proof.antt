@@ -8,7 +8,7 @@ use denote.Ref.{now}
 use borrow.Author.Needs.{needs}
 use borrow.Author.Tests.{ltb-true, ltb-false}
 use Rattle.definitions.specs.Listing.{pageText}
-use Rattle.listing.specs.Place.{put-nothing}
+use Rattle.text.specs.Place.{put-nothing}
 use Rattle.listing.specs.Printed.{dueText, due-within, due-at-end, due-at-full}
 use Rattle.listing.proofs.printing.put_due.Statement.{statement}
 use Rattle.listing.proofs.printing.put_due.Tie as tie

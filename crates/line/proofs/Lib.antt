@@ -1,0 +1,2 @@
+-- Laws of the functions' proofs.
+pub mod ReadLaws

@@ -1,0 +1,23 @@
+-- Each line of the listing is a line of words and numbers. Assumes nothing.
+use mathlib.Core.Path.{_≡_, refl}
+use mathlib.Core.Bool.{Bool, cond}
+use mathlib.Core.List.{[], _∷_, _++_, append-assoc}
+use Prim.Native.Nat.{ℕ}
+use Rattle.definitions.specs.Listing.{decimal, newline, headerText, pageText, totalText, refusedText, letters}
+use Rattle.text.specs.Lines.{shortLine, longLine}
+
+pub header-line : (m top : ℕ) → headerText m top ≡ longLine (letters "degree ") m (letters " top ") top (newline ∷ [])
+unfolding headerText
+header-line m top = refl
+
+pub page-line : (number rows : ℕ) (further : Bool) → pageText number rows further ≡ longLine (letters "page ") number (letters " rows ") rows (cond further (letters " more") (letters " end") ++ newline ∷ [])
+unfolding pageText
+page-line number rows further = append-assoc (letters "page " ++ decimal number ++ letters " rows " ++ decimal rows) (cond further (letters " more") (letters " end")) (newline ∷ [])
+
+pub total-line : (rows : ℕ) → totalText rows ≡ shortLine (letters "total ") rows
+unfolding totalText
+total-line rows = refl
+
+pub refused-line : (number : ℕ) → refusedText number ≡ shortLine (letters "refused ") number
+unfolding refusedText
+refused-line number = refl
