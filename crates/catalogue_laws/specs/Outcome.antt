@@ -4,19 +4,18 @@ use mathlib.Core.Path.{_≡_, refl}
 use mathlib.Core.Logic.{_⊎_, inl, inr}
 use mathlib.Core.Bool.{Bool, true, false}
 use mathlib.Core.List.{List, []}
-use Prim.Native.Nat.{ℕ, _<_}
+use Prim.Native.Nat.{ℕ}
 use native.Mathlib.Omega.{arith}
 use lib.Dec.{eqb}
 use lib.ListN.{length, take, drop, length-take, length-drop}
 use borrow.Author.Tests.{eqb-false, ne-eqb}
 use Rattle.definitions.specs.Answers.{unless}
 use Rattle.definitions.specs.Generator.{lawfulDegree}
-use Rattle.definitions.specs.Catalogue.{Entry, byteAt, entryAt, bodySize, catalogueForm, looking, entryOf, lookupNumbers, lookupPart, readerTop}
+use Rattle.definitions.specs.Catalogue.{Entry, entryAt, contentsEnd, bodySize, catalogueForm, looking, entryOf, lookupNumbers, lookupPart, readerTop}
 use Rattle.definitions.specs.declared.Refusal.{Refusal}
 use Rattle.definitions.specs.declared.Refusal.the-variants.{WrongDegree, IllFormedCatalogue, DegreeMissing}
 use Rattle.definitions.specs.declared.Lookup.the-variants.{Body, NoBody}
-use Rattle.catalogue_laws.specs.Form.{LawfulEntry, entry-lawful}
-use Rattle.catalogue_laws.specs.Lookup.{entry-of-most, entry-of-degree}
+use Rattle.catalogue_laws.specs.Lookup.{FoundEntry, entry-found}
 
 -- The entry of the degree m.
 abbrev pub entryFor : List ℕ → ℕ → Entry
@@ -25,8 +24,7 @@ entryFor s m = entryAt s (entryOf s m)
 pub record Given (s : List ℕ) (m : ℕ) : Type 0 where
   pub form : catalogueForm s ≡ true
   pub lawful-degree : lawfulDegree m ≡ true
-  pub lawful : LawfulEntry s (entryFor s m)
-  pub degree-is : entryFor s m .degree ≡ m
+  pub found : FoundEntry s (contentsEnd s) m (entryOf s m)
   pub numbers-are : lookupNumbers s m ≡ Body (entryFor s m .top) (entryFor s m .rows)
   pub part-is : lookupPart s m ≡ take (bodySize (entryFor s m)) (drop (entryFor s m .offset) s)
   pub top-is : readerTop s m ≡ entryFor s m .top
@@ -37,15 +35,14 @@ pub record Refused (s : List ℕ) (m : ℕ) : Type 0 where
   pub part-is : lookupPart s m ≡ []
   pub top-is : readerTop s m ≡ 0
 
-pub lookup-given : (s : List ℕ) (m : ℕ) → lawfulDegree m ≡ true → catalogueForm s ≡ true → entryOf s m < byteAt s 0 → Given s m
+pub lookup-given : (s : List ℕ) (m : ℕ) → lawfulDegree m ≡ true → catalogueForm s ≡ true → (entryOf s m ≡ 0 → ⊥) → Given s m
 unfolding lookupNumbers lookupPart readerTop looking unless
-lookup-given s m d f l =
-    let v = ne-eqb (entryOf s m) (byteAt s 0) (λ e. omega arith) in
+lookup-given s m d f n =
+    let v = ne-eqb (entryOf s m) 0 n in
     record {
       form = f;
       lawful-degree = d;
-      lawful = entry-lawful s f (entryOf s m) l;
-      degree-is = entry-of-degree s m l;
+      found = entry-found s m f n;
       numbers-are = rw (d, f, v);
       part-is = rw (d, f, v);
       top-is = rw (d, f, v);
@@ -53,17 +50,15 @@ lookup-given s m d f l =
 
 pub lookup-outcome : (s : List ℕ) (m : ℕ) → Given s m ⊎ Refused s m
 unfolding lookupNumbers lookupPart readerTop looking unless
-lookup-outcome s m = go (lawfulDegree m) refl (catalogueForm s) refl (eqb (entryOf s m) (byteAt s 0)) refl
+lookup-outcome s m = go (lawfulDegree m) refl (catalogueForm s) refl (eqb (entryOf s m) 0) refl
   where
-    go : (d : Bool) → lawfulDegree m ≡ d → (f : Bool) → catalogueForm s ≡ f → (g : Bool) → eqb (entryOf s m) (byteAt s 0) ≡ g → Given s m ⊎ Refused s m
+    go : (d : Bool) → lawfulDegree m ≡ d → (f : Bool) → catalogueForm s ≡ f → (g : Bool) → eqb (entryOf s m) 0 ≡ g → Given s m ⊎ Refused s m
     go false d f u g v = inr (record { refusal = WrongDegree; numbers-are = rw d; part-is = rw d; top-is = rw d })
     go true d false u g v = inr (record { refusal = IllFormedCatalogue; numbers-are = rw (d, u); part-is = rw (d, u); top-is = rw (d, u) })
     go true d true u true v = inr (record { refusal = DegreeMissing; numbers-are = rw (d, u, v); part-is = rw (d, u, v); top-is = rw (d, u, v) })
-    go true d true u false v =
-        let n = eqb-false (entryOf s m) (byteAt s 0) v in
-        inl (lookup-given s m d u (omega (arith, entry-of-most s m)))
+    go true d true u false v = inl (lookup-given s m d u (eqb-false (entryOf s m) 0 v))
 
 -- The part has as many rows as the entry says.
 pub part-length : (s : List ℕ) (m : ℕ) → Given s m → length (lookupPart s m) ≡ bodySize (entryFor s m)
 part-length s m g =
-    rw (g .part-is) (simp (length-take, length-drop) (omega (arith, g .lawful .within)))
+    rw (g .part-is) (simp (length-take, length-drop) (omega (arith, g .found .lawful .within)))
