@@ -1,31 +1,18 @@
--- Lookups: what a function of a call's answer is, when opening refuses, and where the entry of a degree is.
+-- Lookups: when opening refuses, and where the entry of a degree is.
 -- The entry by the recursion that looks for it; in a file of the form the entry that is found is lawful. Assumes nothing.
 use mathlib.Core.Path.{_≡_, refl, _∙_}
 use mathlib.Core.Bool.{Bool, true, false}
-use mathlib.Core.List.{List, [], _∷_}
+use mathlib.Core.List.{List}
 use Prim.Native.Nat.{ℕ, zero, suc, _-_, _<_, _≤_}
 use native.Mathlib.Omega.{arith}
 use lib.Dec.{eqb}
 use borrow.Author.Tests.{eqb-true, eqb-false, eq-eqb, ne-eqb}
-use Rattle.definitions.specs.Answers.{Situation, unless}
+use Rattle.definitions.specs.Answers.{unless}
 use Rattle.definitions.specs.Catalogue.{byteAt, entryAt, firstEntry, behindEntry, behindEntries, contentsEnd, entriesForm, catalogueForm, opening, entryFrom}
 use Rattle.definitions.specs.Catalogue.{entryOf}
-use Rattle.definitions.specs.declared.Refusal.{Refusal}
 use Rattle.definitions.specs.declared.Refusal.the-variants.{IllFormedCatalogue}
 use Rattle.definitions.specs.declared.Opening.the-variants.{Entries, Closed}
 use Rattle.catalogue_laws.specs.Form.{LawfulEntry, entries-out, entry-at-degree, behind-least, catalogue-form}
-
-pub unless-map : {A B : Type 0} (f : A → B) (l : List Situation) (refuse : Refusal → A) (v : A)
-    → f (unless l refuse v) ≡ unless l (λ (r : Refusal). f (refuse r)) (f v)
-unfolding unless
-unless-map f [] refuse v = refl
-unless-map f (s ∷ l) refuse v = go (s .applies) (unless-map f l refuse v)
-  where
-    go : (b : Bool) → f (unless l refuse v) ≡ unless l (λ (r : Refusal). f (refuse r)) (f v)
-        → f (elim b [ true ↦ refuse (s .refusal) | false ↦ unless l refuse v ])
-        ≡ elim b [ true ↦ f (refuse (s .refusal)) | false ↦ unless l (λ (r : Refusal). f (refuse r)) (f v) ]
-    go true ih = refl
-    go false ih = ih
 
 pub opening-closed : (s : List ℕ) → catalogueForm s ≡ false → opening s ≡ Closed IllFormedCatalogue
 unfolding opening unless

@@ -73,7 +73,7 @@ module _ (m top rows : ℕ) (body : List ℕ) (d : lawfulDegree m ≡ true) (t :
 -- ---- the theorem
 
 top-lawful : (s : List ℕ) (m : ℕ) → Given s m → lawfulTop (entryFor s m .top) ≡ true
-top-lawful s m g = lawfulTop-is (entryFor s m .top) .1 (g .found .lawful .lawful-top)
+top-lawful s m g = lawfulTop-is (entryFor s m .top) .1 (g .finds .found .lawful .lawful-top)
 
 -- A reader that is opened with a degree: the rows, and then the end, however often it is asked.
 pub reader-hands-out : (s : List ℕ) (m top rows n : ℕ) → lookupNumbers s m ≡ Body top rows
@@ -85,9 +85,9 @@ reader-hands-out s m top rows n e = go (lookup-outcome s m)
         let t : entryFor s m .top ≡ top = cc (g .numbers-are) in
         let r : entryFor s m .rows ≡ rows = cc (g .numbers-are) in
         let z : 0 * rowSize m top ≡ 0 = zero-mul (rowSize m top) in
-        let size : length (lookupPart s m) ≡ rows * rowSize m top = part-length s m g ∙ rw (g .found .degree-is, r, t) in
+        let size : length (lookupPart s m) ≡ rows * rowSize m top = part-length s m g ∙ rw (g .finds .found .degree-is, r, t) in
         let l : lawfulTop top ≡ true = sym (ap lawfulTop t) ∙ top-lawful s m g in
-        let h = hands-out-rows m top rows (lookupPart s m) (g .lawful-degree) l size rows 0 n (zero-add rows) in
+        let h = hands-out-rows m top rows (lookupPart s m) (g .finds .lawful-degree) l size rows 0 n (zero-add rows) in
         ap (λ (k : ℕ). handsOut (rows + n) m k (lookupPart s m) 0) (g .top-is ∙ t) ∙ ap (handsOut (rows + n) m top (lookupPart s m)) (sym z) ∙ h
     go (inr f) = let z : _≡_ {A = ℕ} 0 1 = cc (f .numbers-are) in absurd (omega arith)
 

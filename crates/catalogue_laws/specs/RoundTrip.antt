@@ -19,7 +19,7 @@ use Rattle.catalogue_laws.specs.Encoding.{rowBytes, Listed, bodyBytes, b
 use Rattle.catalogue_laws.specs.Rows.{rowOf}
 use Rattle.catalogue_laws.specs.Form.{entry-at-degree}
 use Rattle.catalogue_laws.specs.Lookup.{entry-of, look-stop, look-behind, opening-entries}
-use Rattle.catalogue_laws.specs.Outcome.{Given, lookup-given}
+use Rattle.catalogue_laws.specs.Outcome.{Given, looking-finds, lookup-given}
 use Rattle.catalogue_laws.specs.Reader.{handsOut, bodyRows, reader-hands-out}
 use Rattle.catalogue_laws.specs.Bytes.{Stands, stands-part, stands-whole}
 use Rattle.catalogue_laws.specs.Written.{row-written, rows-stand}
@@ -118,8 +118,9 @@ module _ (ls : List Listed) (h : LawfulLists 0 ls) where
 
     given-back : Given file (x .degree)
     given-back =
-        lookup-given file (x .degree) (lawfulDegree-is (x .degree) .1 (placed .lawful .lawful-degree)) (catalogue-written ls h)
-        (λ e. omega (arith, entry-found-at, placed .behind-first))
+        let lawful = lawfulDegree-is (x .degree) .1 (placed .lawful .lawful-degree) in
+        lookup-given file (x .degree)
+        (looking-finds file (x .degree) lawful (catalogue-written ls h) (λ e. omega (arith, entry-found-at, placed .behind-first)))
 
     entry-given : entryAt file (entryOf file (x .degree)) ≡ entryOfList x (placed .body-place)
     entry-given = ap (entryAt file) entry-found-at ∙ placed .is
