@@ -20,8 +20,12 @@ pub record Stands (s : List ℕ) (place : ℕ) (part : List ℕ) : Type 0 where
   pub place-is : length before ≡ place
 
 pub stands-first : (s : List ℕ) (place : ℕ) (a b : List ℕ) → Stands s place (a ++ b) → Stands s place a
-stands-first s place a b h =
-    record { before = h .before; behind = b ++ h .behind; file-is = h .file-is ∙ ap (λ (l : List ℕ). h .before ++ l) (append-assoc a b (h .behind)); place-is = h .place-is }
+stands-first s place a b h = record {
+  before = h .before;
+  behind = b ++ h .behind;
+  file-is = h .file-is ∙ ap (λ (l : List ℕ). h .before ++ l) (append-assoc a b (h .behind));
+  place-is = h .place-is;
+}
 
 pub stands-rest : (s : List ℕ) (place : ℕ) (a b : List ℕ) → Stands s place (a ++ b) → Stands s (place + length a) b
 stands-rest s place a b h = record {

@@ -3,7 +3,7 @@ use mathlib.Core.List.{List, [], _∷_, _++_, map}
 use Prim.Native.Nat.{ℕ, zero, suc, _+_, _-_, _/_, _%_, _^_}
 use lib.ListN.{length, drop, getD}
 use Rattle.definitions.specs.Number.{join}
-use Rattle.definitions.specs.Catalogue.{contentsSize}
+use Rattle.definitions.specs.Catalogue.{numberSize, countSize, offsetSize, entrySize, firstEntry}
 
 -- A number in w bytes.
 unfoldable pub bytesOf : ℕ → ℕ → List ℕ
@@ -17,18 +17,25 @@ pub record Listed : Type 0 where
   pub rows : List (List ℕ)
 
 unfoldable pub rowBytes : ℕ → List ℕ → List ℕ
-rowBytes m r = bytesOf 2 (getD r 0 0 - 2 ^ m) ++ bytesOf 2 (getD r 1 0) ++ bytesOf 2 (getD r 2 0) ++ drop 3 r
+rowBytes m r =
+    let w : ℕ = numberSize m in
+    bytesOf w (getD r 0 0 - 2 ^ m) ++ bytesOf w (getD r 1 0) ++ bytesOf w (getD r 2 0) ++ drop 3 r
 
 unfoldable pub bodyBytes : Listed → List ℕ
 bodyBytes l = join (map (rowBytes (l .degree)) (l .rows))
 
 unfoldable pub entryBytes : Listed → ℕ → List ℕ
-entryBytes l offset = l .degree ∷ l .top ∷ bytesOf 2 (length (l .rows)) ++ bytesOf 4 offset
+entryBytes l offset = l .degree ∷ l .top ∷ bytesOf (countSize (l .degree)) (length (l .rows)) ++ bytesOf offsetSize offset
 
 -- The entries, the first body lying at `at`.
 unfoldable pub contentsBytes : List Listed → ℕ → List ℕ
 contentsBytes [] at = []
 contentsBytes (l ∷ ls) at = entryBytes l at ++ contentsBytes ls (at + length (bodyBytes l))
 
+-- The place behind the entries of the lists, the first entry lying at i.
+unfoldable pub behindLists : List Listed → ℕ → ℕ
+behindLists [] i = i
+behindLists (l ∷ ls) i = behindLists ls (i + entrySize (l .degree))
+
 unfoldable pub catalogueBytes : List Listed → List ℕ
-catalogueBytes ls = length ls ∷ contentsBytes ls (contentsSize (length ls)) ++ join (map bodyBytes ls)
+catalogueBytes ls = length ls ∷ contentsBytes ls (behindLists ls firstEntry) ++ join (map bodyBytes ls)

@@ -7,8 +7,10 @@ use Prim.Native.Nat.{ℕ}
 use Rattle.definitions.specs.Ranking.{ranked}
 use Rattle.definitions.specs.Examples.{calls}
 use Rattle.definitions.specs.Answers.{unless}
-use Rattle.definitions.specs.Catalogue.{numberAt, entryAt, rowForm, entryForm, entriesForm, catalogueForm, opening, entryOf, looking, lookupNumbers, lookupPart, readerTop, atRow, rowAt, nextRow, nextPlace}
-use Rattle.catalogue_laws.specs.Encoding.{bytesOf, rowBytes, bodyBytes, entryBytes, contentsBytes, catalogueBytes}
+use Rattle.definitions.specs.Catalogue.{numberAt, numberSize, countSize, entrySize, rowSize, entryAt, behindEntries, rowForm, entryForm, entriesForm}
+use Rattle.definitions.specs.Catalogue.{catalogueForm, opening, entryFrom, entryOf, looking, lookupNumbers, lookupPart, readerTop, atRow, rowAt, nextRow}
+use Rattle.definitions.specs.Catalogue.{nextPlace}
+use Rattle.catalogue_laws.specs.Encoding.{bytesOf, rowBytes, bodyBytes, entryBytes, contentsBytes, behindLists, catalogueBytes}
 use Rattle.definitions.specs.declared.NextRow.{NextRow}
 use Rattle.definitions.specs.declared.NextRow.the-variants.{Found, End}
 use Rattle.definitions.specs.declared.Opening.the-variants.{Entries}
@@ -25,9 +27,14 @@ printed =
     ∷ 0 ∷ 5 ∷ 0 ∷ 7 ∷ 0 ∷ 4 ∷ 1 ∷ 1
     ∷ []
 
+-- To unfold this is to unfold all sizes.
+sizes : ℕ
+unfolding numberSize countSize entrySize rowSize
+sizes = 0
+
 -- To unfold this is to unfold what a file's form is defined by, so that it computes.
 form : ℕ
-unfolding calls numberAt entryAt rowForm entryForm entriesForm catalogueForm unless looking entryOf
+unfolding calls sizes numberAt entryAt behindEntries rowForm entryForm entriesForm catalogueForm unless looking entryFrom entryOf
 form = 0
 
 pub printed-form : catalogueForm printed ≡ true
@@ -50,6 +57,6 @@ pub printed-rows : handsOut 5 3 (readerTop printed 3) (lookupPart printed 3) 0 �
 unfolding printed form handsOut readerTop lookupPart atRow rowAt nextRow nextPlace
 printed-rows = refl
 
-pub printed-bytes : catalogueBytes (record { degree = 3; top = 4; rows = ranked 3 4 } ∷ []) ≡ printed
-unfolding printed calls bytesOf rowBytes bodyBytes entryBytes contentsBytes catalogueBytes
+pub printed-bytes : catalogueBytes (record { degree = 3; top = 4; rows = ranked (record { degree = 3; top = 4 }) } ∷ []) ≡ printed
+unfolding printed form bytesOf rowBytes bodyBytes entryBytes contentsBytes behindLists catalogueBytes
 printed-bytes = refl

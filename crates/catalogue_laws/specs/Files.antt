@@ -4,167 +4,250 @@
 use mathlib.Core.Path.{_≡_, refl, sym, ap, _∙_, subst}
 use mathlib.Core.Bool.{true}
 use mathlib.Core.List.{List, [], _∷_, _++_, map}
-use Prim.Native.Nat.{ℕ, suc, _+_, _-_, _*_, _^_, _<_, _≤_}
+use Prim.Native.Nat.{ℕ, _+_, _-_, _*_, _^_, _<_, _≤_}
 use native.Mathlib.Nat.{add-zero, mul-le-mul-left}
 use native.Mathlib.Omega.{arith}
-use lib.ListN.{length, getD, length-append}
-use borrow.Author.Tests.{le-leb, eq-eqb}
+use lib.ListN.{length, length-append}
+use borrow.Author.Tests.{eq-eqb}
 use Rattle.definitions.specs.Number.{join}
-use Rattle.definitions.specs.Catalogue.{byteAt, numberAt, rowSize, contentsSize, Entry, entryAt, bodySize, rowForm, entryForm, entriesForm, catalogueForm}
-use Rattle.catalogue_laws.specs.Encoding.{bytesOf, Listed, bodyBytes, entryBytes, contentsBytes, catalogueBytes}
+use Rattle.definitions.specs.Generator.{largestDegree}
+use Rattle.definitions.specs.Catalogue.{byteAt, numberAt, countSize, offsetSize, entrySize, rowSize, Entry, entryAt, firstEntry, behindEntry, behindEntries}
+use Rattle.definitions.specs.Catalogue.{contentsEnd, mostEntries, bodySize, rowForm, entryForm, entriesForm, catalogueForm}
+use Rattle.number_laws.specs.Bounds.{LawfulDegree, LawfulTop, lawfulDegree-is, lawfulTop-is}
 use Rattle.number_laws.specs.Every.{every-in}
+use Rattle.catalogue_laws.specs.Sizes.{entry-size-is, entry-size-most, row-size-most}
+use Rattle.catalogue_laws.specs.Encoding.{bytesOf, Listed, bodyBytes, entryBytes, contentsBytes, behindLists, catalogueBytes}
 use Rattle.catalogue_laws.specs.Form.{entry-rows, catalogue-entries}
 use Rattle.catalogue_laws.specs.Bytes.{Stands, stands-first, stands-rest, stands-whole, stands-byte, stands-number, bytes-length}
-use Rattle.catalogue_laws.specs.Written.{LawfulRow, row-written-form, rows-length, rows-stand}
+use Rattle.catalogue_laws.specs.Written.{LawfulRows, row-written-form, rows-length, rows-stand}
 
 -- A list that a catalogue can hold.
 pub record LawfulListed (l : Listed) : Type 0 where
-  pub degree-least : 2 ≤ l .degree
-  pub degree-most : l .degree ≤ 16
-  pub top-least : 3 ≤ l .top
-  pub top-most : l .top ≤ 8
-  pub few : length (l .rows) < 65536
-  pub each : (k : ℕ) → k < length (l .rows) → LawfulRow (l .degree) (l .top) (getD (l .rows) k [])
+  pub lawful-degree : LawfulDegree (l .degree)
+  pub lawful-top : LawfulTop (l .top)
+  pub few : length (l .rows) < 256 ^ countSize (l .degree)
+  pub each : LawfulRows (l .degree) (l .top) (l .rows)
 
 -- Lists of ascending degrees, behind the degree `last`.
-pub data Lawful : ℕ → List Listed → Type 0 where
-  none : {last : ℕ} → Lawful last []
-  more : {last : ℕ} {l : Listed} {ls : List Listed} → last < l .degree → LawfulListed l → Lawful (l .degree) ls → Lawful last (l ∷ ls)
+pub data LawfulLists : ℕ → List Listed → Type 0 where
+  none : {last : ℕ} → LawfulLists last []
+  more : {last : ℕ} {l : Listed} {ls : List Listed} → last < l .degree → LawfulListed l → LawfulLists (l .degree) ls → LawfulLists last (l ∷ ls)
 
 -- ---- sizes
 
-pub body-length : (l : Listed) → LawfulListed l → length (bodyBytes l) ≡ length (l .rows) * rowSize (l .top)
+-- The bodies of the lists, one behind the other.
+abbrev pub bodiesBytes : List Listed → List ℕ
+bodiesBytes ls = join (map bodyBytes ls)
+
+pub body-length : (l : Listed) → LawfulListed l → length (bodyBytes l) ≡ length (l .rows) * rowSize (l .degree) (l .top)
 unfolding bodyBytes
-body-length l h = rows-length (l .degree) (l .top) (h .top-least) (l .rows) (h .each)
+body-length l h = rows-length (l .degree) (l .top) (h .lawful-top .low) (l .rows) (h .each)
 
-lists-most : {last : ℕ} {ls : List Listed} → last ≤ 16 → Lawful last ls → length ls + last ≤ 16
+lists-most : {last : ℕ} {ls : List Listed} → last ≤ largestDegree → LawfulLists last ls → length ls + last ≤ largestDegree
 lists-most l none = omega arith
-lists-most l (more a h f) = omega (arith, lists-most (h .degree-most) f)
+lists-most l (more a h f) = omega (arith, lists-most (h .lawful-degree .high) f)
 
-pub lists-few : {ls : List Listed} → Lawful 0 ls → length ls ≤ 15
+pub lists-few : {ls : List Listed} → LawfulLists 0 ls → length ls ≤ mostEntries
 lists-few none = omega arith
-lists-few (more a h f) = omega (arith, h .degree-least, lists-most (h .degree-most) f)
+lists-few (more a h f) = omega (arith, h .lawful-degree .low, lists-most (h .lawful-degree .high) f)
 
-bodies-most : {last : ℕ} {ls : List Listed} → Lawful last ls → length (join (map bodyBytes ls)) ≤ length ls * 786432
+-- A list has fewer than 2^16 rows of at most 18 bytes.
+body-most : (l : Listed) → LawfulListed l → length (bodyBytes l) ≤ 65536 * 18
+unfolding countSize
+body-most l h =
+    let size = row-size-most (l .degree) (l .top) (h .lawful-top .high) in
+    let most : length (l .rows) * rowSize (l .degree) (l .top) ≤ length (l .rows) * 18 = mul-le-mul-left (length (l .rows)) size in
+    omega (arith, h .few, body-length l h)
+
+bodies-most : {last : ℕ} {ls : List Listed} → LawfulLists last ls → length (bodiesBytes ls) ≤ length ls * (65536 * 18)
 bodies-most none = omega arith
-bodies-most {ls = l ∷ ls} (more a h f) =
-    let ih = bodies-most f in
-    let u : length (l .rows) * rowSize (l .top) ≤ length (l .rows) * 12 = mul-le-mul-left (length (l .rows)) (omega (arith, h .top-most)) in
-    omega (arith, h .few, body-length l h, length-append (bodyBytes l) (join (map bodyBytes ls)))
+bodies-most {ls = l ∷ ls} (more a h f) = omega (arith, bodies-most f, body-most l h, length-append (bodyBytes l) (bodiesBytes ls))
 
-entry-length : (l : Listed) (offset : ℕ) → length (entryBytes l offset) ≡ 8
-unfolding entryBytes bytesOf
-entry-length l offset = refl
+entry-length : (l : Listed) (offset : ℕ) → length (entryBytes l offset) ≡ entrySize (l .degree)
+unfolding entryBytes
+entry-length l offset = simp (length-append, bytes-length) (omega (arith, entry-size-is (l .degree)))
 
-contents-length : (ls : List Listed) (at : ℕ) → length (contentsBytes ls at) ≡ 8 * length ls
-unfolding contentsBytes
-contents-length [] at = refl
-contents-length (l ∷ ls) at =
-    length-append (entryBytes l at) (contentsBytes ls (at + length (bodyBytes l)))
-    ∙ omega (arith, entry-length l at, contents-length ls (at + length (bodyBytes l)))
+contents-length : (ls : List Listed) (at i : ℕ) → i + length (contentsBytes ls at) ≡ behindLists ls i
+unfolding contentsBytes behindLists
+contents-length [] at i = omega arith
+contents-length (l ∷ ls) at i =
+    let n = at + length (bodyBytes l) in
+    let e : i + length (entryBytes l at ++ contentsBytes ls n) ≡ i + entrySize (l .degree) + length (contentsBytes ls n) =
+    omega (arith, length-append (entryBytes l at) (contentsBytes ls n), entry-length l at) in
+    e ∙ contents-length ls n (i + entrySize (l .degree))
+
+behind-lists-most : (ls : List Listed) (i : ℕ) → behindLists ls i ≤ i + length ls * 10
+unfolding behindLists
+behind-lists-most [] i = omega arith
+behind-lists-most (l ∷ ls) i = omega (arith, behind-lists-most ls (i + entrySize (l .degree)), entry-size-most (l .degree))
 
 -- ---- one entry
 
-module _ (s : List ℕ) (i : ℕ) (l : Listed) (offset : ℕ) (h : LawfulListed l) (o : offset < 256 ^ 4) (p : Stands s (contentsSize i) (entryBytes l offset)) where
-  opened : Stands s (contentsSize i) ((l .degree ∷ l .top ∷ []) ++ (bytesOf 2 (length (l .rows)) ++ bytesOf 4 offset))
-  unfolding entryBytes bytesOf
-  opened = p
+-- The entry of a list whose body lies at `offset`.
+abbrev pub entryOfList : Listed → ℕ → Entry
+entryOfList l offset = record { degree = l .degree; top = l .top; rows = length (l .rows); offset = offset }
 
-  pub entry-is : entryAt s i ≡ record { degree = l .degree; top = l .top; rows = length (l .rows); offset = offset }
+module _ (s : List ℕ) (i : ℕ) (l : Listed) (offset : ℕ) (h : LawfulListed l) (o : offset < 256 ^ offsetSize) (p : Stands s i (entryBytes l offset)) where
+  abbrev w : ℕ
+  w = countSize (l .degree)
+
+  abbrev firsts : List ℕ
+  firsts = l .degree ∷ l .top ∷ []
+
+  abbrev count : List ℕ
+  count = bytesOf w (length (l .rows))
+
+  firsts-stand : Stands s i firsts
+  unfolding entryBytes
+  firsts-stand = stands-first s i firsts (count ++ bytesOf offsetSize offset) p
+
+  rest-stands : Stands s (i + 2) (count ++ bytesOf offsetSize offset)
+  unfolding entryBytes
+  rest-stands = stands-rest s i firsts (count ++ bytesOf offsetSize offset) p
+
+  degree-is : byteAt s i ≡ l .degree
+  degree-is = ap (byteAt s) (sym (add-zero i)) ∙ stands-byte s i firsts 0 firsts-stand (omega arith)
+
+  count-is : numberAt w s (i + 2) ≡ length (l .rows)
+  count-is = stands-number w (length (l .rows)) s (i + 2) (h .few) (stands-first s (i + 2) count (bytesOf offsetSize offset) rest-stands)
+
+  offset-is : numberAt offsetSize s (i + 2 + w) ≡ offset
+  offset-is =
+      stands-number offsetSize offset s (i + 2 + w) o
+      (subst (λ (n : ℕ). Stands s (i + 2 + n) (bytesOf offsetSize offset)) (bytes-length w (length (l .rows)))
+      (stands-rest s (i + 2) count (bytesOf offsetSize offset) rest-stands))
+
+  pub entry-is : entryAt s i ≡ entryOfList l offset
   unfolding entryAt
-  entry-is =
-      let head = stands-first s (contentsSize i) (l .degree ∷ l .top ∷ []) (bytesOf 2 (length (l .rows)) ++ bytesOf 4 offset) opened in
-      let tail : Stands s (contentsSize i + 2) (bytesOf 2 (length (l .rows)) ++ bytesOf 4 offset) = stands-rest s (contentsSize i) (l .degree ∷ l .top ∷ []) (bytesOf 2 (length (l .rows)) ++ bytesOf 4 offset) opened in
-      let d : byteAt s (contentsSize i) ≡ l .degree = ap (byteAt s) (sym (add-zero (contentsSize i))) ∙ stands-byte s (contentsSize i) (l .degree ∷ l .top ∷ []) 0 head (omega arith) in
-      let t : byteAt s (contentsSize i + 1) ≡ l .top = stands-byte s (contentsSize i) (l .degree ∷ l .top ∷ []) 1 head (omega arith) in
-      let r : numberAt 2 s (contentsSize i + 2) ≡ length (l .rows) = stands-number 2 (length (l .rows)) s (contentsSize i + 2) (omega (arith, h .few)) (stands-first s (contentsSize i + 2) (bytesOf 2 (length (l .rows))) (bytesOf 4 offset) tail) in
-      let e : contentsSize i + 2 + length (bytesOf 2 (length (l .rows))) ≡ contentsSize i + 4 = omega (arith, bytes-length 2 (length (l .rows))) in
-      let f : numberAt 4 s (contentsSize i + 4) ≡ offset = stands-number 4 offset s (contentsSize i + 4) o (subst (λ (n : ℕ). Stands s n (bytesOf 4 offset)) e (stands-rest s (contentsSize i + 2) (bytesOf 2 (length (l .rows))) (bytesOf 4 offset) tail)) in
-      rw (d, t, r, f)
+  entry-is = rw (degree-is, stands-byte s i firsts 1 firsts-stand (omega arith), count-is, offset-is)
 
-  pub entry-written-form : (last : ℕ) → last < l .degree → Stands s offset (bodyBytes l) → offset + length (bodyBytes l) ≤ length s → entryForm s (entryAt s i) last offset ≡ true
+  pub behind-is : behindEntry s i ≡ i + entrySize (l .degree)
+  behind-is = rw degree-is
+
+  pub entry-written-form : (last : ℕ) → last < l .degree → Stands s offset (bodyBytes l) → offset + length (bodyBytes l) ≤ length s
+      → entryForm s (entryAt s i) last offset ≡ true
   unfolding bodyBytes
   entry-written-form last a b z =
+      let m = l .degree in
+      let top = l .top in
+      let stand = rows-stand m top (h .lawful-top .low) (l .rows) (h .each) s offset b in
+      let degree-lawful = lawfulDegree-is m .1 (h .lawful-degree) in
+      let top-lawful = lawfulTop-is top .1 (h .lawful-top) in
       rw entry-is
-      (entry-rows s (record { degree = l .degree; top = l .top; rows = length (l .rows); offset = offset }) last offset
-      (rw (le-leb 2 (l .degree) (h .degree-least), le-leb (l .degree) 16 (h .degree-most)))
-      a
-      (rw (le-leb 3 (l .top) (h .top-least), le-leb (l .top) 8 (h .top-most)))
-      refl
-      (omega (arith, body-length l h))
-      ∙ every-in (length (l .rows)) (λ (k : ℕ). rowForm (l .degree) (l .top) s (offset + k * rowSize (l .top)))
-      (λ k r. row-written-form (l .degree) (l .top) (getD (l .rows) k []) s (offset + k * rowSize (l .top)) (h .degree-most) (h .top-least) (h .each k r)
-      (rows-stand (l .degree) (l .top) (h .top-least) (l .rows) (h .each) s offset b k r)))
+      (entry-rows s (entryOfList l offset) last offset degree-lawful a top-lawful refl (omega (arith, body-length l h))
+      ∙ every-in (length (l .rows)) (λ (k : ℕ). rowForm m top s (offset + k * rowSize m top))
+      (λ k r. row-written-form m top _ s (offset + k * rowSize m top) (h .lawful-degree) (h .lawful-top) (h .each k r) (stand k r)))
 
 -- ---- all entries
 
--- The lists stand in the file from entry i on, their bodies from `at` on, up to the file's end.
+-- The lists stand in the file, their entries from place i on, their bodies from `at` on, up to the file's end.
 pub record Laid (s : List ℕ) (ls : List Listed) (i at : ℕ) : Type 0 where
-  pub contents : Stands s (contentsSize i) (contentsBytes ls at)
-  pub bodies : Stands s at (join (map bodyBytes ls))
-  pub ends : length s ≡ at + length (join (map bodyBytes ls))
-  pub small : length s < 256 ^ 4
+  pub contents : Stands s i (contentsBytes ls at)
+  pub bodies : Stands s at (bodiesBytes ls)
+  pub ends : length s ≡ at + length (bodiesBytes ls)
+  pub small : length s < 256 ^ offsetSize
 
 module _ (s : List ℕ) (l : Listed) (ls : List Listed) (i at : ℕ) (p : Laid s (l ∷ ls) i at) where
-  pub laid-entry : Stands s (contentsSize i) (entryBytes l at)
+  abbrev next : ℕ
+  next = at + length (bodyBytes l)
+
+  pub laid-entry : Stands s i (entryBytes l at)
   unfolding contentsBytes
-  laid-entry = stands-first s (contentsSize i) (entryBytes l at) (contentsBytes ls (at + length (bodyBytes l))) (p .contents)
+  laid-entry = stands-first s i (entryBytes l at) (contentsBytes ls next) (p .contents)
 
   pub laid-body : Stands s at (bodyBytes l)
-  laid-body = stands-first s at (bodyBytes l) (join (map bodyBytes ls)) (p .bodies)
+  laid-body = stands-first s at (bodyBytes l) (bodiesBytes ls) (p .bodies)
 
-  pub laid-within : at + length (bodyBytes l) ≤ length s
-  laid-within = omega (arith, p .ends, length-append (bodyBytes l) (join (map bodyBytes ls)))
+  pub laid-within : next ≤ length s
+  laid-within = omega (arith, p .ends, length-append (bodyBytes l) (bodiesBytes ls))
 
-  pub laid-rest : Laid s ls (suc i) (at + length (bodyBytes l))
+  pub laid-rest : Laid s ls (i + entrySize (l .degree)) next
   unfolding contentsBytes
-  laid-rest =
-      let e : contentsSize i + length (entryBytes l at) ≡ contentsSize (suc i) = omega (arith, entry-length l at) in
-      record {
-        contents = subst (λ (n : ℕ). Stands s n (contentsBytes ls (at + length (bodyBytes l)))) e (stands-rest s (contentsSize i) (entryBytes l at) (contentsBytes ls (at + length (bodyBytes l))) (p .contents));
-        bodies = stands-rest s at (bodyBytes l) (join (map bodyBytes ls)) (p .bodies);
-        ends = omega (arith, p .ends, length-append (bodyBytes l) (join (map bodyBytes ls)));
-        small = p .small;
-      }
+  laid-rest = record {
+    contents =
+        subst (λ (n : ℕ). Stands s (i + n) (contentsBytes ls next)) (entry-length l at)
+        (stands-rest s i (entryBytes l at) (contentsBytes ls next) (p .contents));
+    bodies = stands-rest s at (bodyBytes l) (bodiesBytes ls) (p .bodies);
+    ends = omega (arith, p .ends, length-append (bodyBytes l) (bodiesBytes ls));
+    small = p .small;
+  }
 
-  pub laid-offset : at < 256 ^ 4
+  pub laid-offset : at < 256 ^ offsetSize
   laid-offset = omega (arith, p .small, laid-within)
 
-pub entries-written : (s : List ℕ) {last : ℕ} {ls : List Listed} (i at : ℕ) → Lawful last ls → Laid s ls i at → entriesForm s (length ls) i last at ≡ true
+-- What an entry that stands at i is, and where the next one lies.
+module _ (s : List ℕ) (l : Listed) (ls : List Listed) (i at : ℕ) (h : LawfulListed l) (p : Laid s (l ∷ ls) i at) where
+  pub laid-entry-is : entryAt s i ≡ entryOfList l at
+  laid-entry-is = entry-is s i l at h (laid-offset s l ls i at p) (laid-entry s l ls i at p)
+
+  pub laid-behind : behindEntry s i ≡ i + entrySize (l .degree)
+  laid-behind = behind-is s i l at h (laid-offset s l ls i at p) (laid-entry s l ls i at p)
+
+  laid-size : bodySize (entryAt s i) ≡ length (bodyBytes l)
+  laid-size = ap bodySize laid-entry-is ∙ sym (body-length l h)
+
+  laid-form : (last : ℕ) → last < l .degree → entryForm s (entryAt s i) last at ≡ true
+  laid-form last a =
+      entry-written-form s i l at h (laid-offset s l ls i at p) (laid-entry s l ls i at p) last a (laid-body s l ls i at p)
+      (laid-within s l ls i at p)
+
+pub entries-written : (s : List ℕ) {last : ℕ} {ls : List Listed} (i at : ℕ) → LawfulLists last ls → Laid s ls i at
+    → entriesForm s (length ls) i last at ≡ true
 unfolding entriesForm
 entries-written s i at none p = eq-eqb at (length s) (omega (arith, p .ends))
 entries-written s {last} {ls = l ∷ ls} i at (more a h f) p =
-    let o = laid-offset s l ls i at p in
-    let q = laid-entry s l ls i at p in
-    let e = entry-is s i l at h o q in
-    let b : bodySize (entryAt s i) ≡ length (bodyBytes l) = ap bodySize e ∙ sym (body-length l h) in
-    let d : entryAt s i .degree ≡ l .degree = ap (λ (x : Entry). x .degree) e in
-    rw (entry-written-form s i l at h o q last a (laid-body s l ls i at p) (laid-within s l ls i at p), b, d)
-    (entries-written s (suc i) (at + length (bodyBytes l)) f (laid-rest s l ls i at p))
+    let d : entryAt s i .degree ≡ l .degree = ap (λ (x : Entry). x .degree) (laid-entry-is s l ls i at h p) in
+    rw (laid-form s l ls i at h p last a, laid-size s l ls i at h p, d, laid-behind s l ls i at h p)
+    (entries-written s (i + entrySize (l .degree)) (at + length (bodyBytes l)) f (laid-rest s l ls i at p))
 
-module _ (ls : List Listed) (h : Lawful 0 ls) where
-  pub catalogue-laid : Laid (catalogueBytes ls) ls 0 (contentsSize (length ls))
+pub entries-behind : (s : List ℕ) {last : ℕ} {ls : List Listed} (i at : ℕ) → LawfulLists last ls → Laid s ls i at
+    → behindEntries s (length ls) i ≡ behindLists ls i
+unfolding behindEntries behindLists
+entries-behind s i at none p = refl
+entries-behind s {ls = l ∷ ls} i at (more a h f) p =
+    ap (behindEntries s (length ls)) (laid-behind s l ls i at h p)
+    ∙ entries-behind s (i + entrySize (l .degree)) (at + length (bodyBytes l)) f (laid-rest s l ls i at p)
+
+module _ (ls : List Listed) (h : LawfulLists 0 ls) where
+  -- Where the bodies begin.
+  abbrev start : ℕ
+  start = behindLists ls firstEntry
+
+  abbrev contents : List ℕ
+  contents = contentsBytes ls start
+
+  catalogue-length : length (catalogueBytes ls) ≡ start + length (bodiesBytes ls)
   unfolding catalogueBytes
-  catalogue-laid =
-      let all : Stands (catalogueBytes ls) 0 ((length ls ∷ []) ++ (contentsBytes ls (contentsSize (length ls)) ++ join (map bodyBytes ls))) = stands-whole (catalogueBytes ls) in
-      let rest = stands-rest (catalogueBytes ls) 0 (length ls ∷ []) (contentsBytes ls (contentsSize (length ls)) ++ join (map bodyBytes ls)) all in
-      let c = contents-length ls (contentsSize (length ls)) in
-      let e : 0 + 1 + length (contentsBytes ls (contentsSize (length ls))) ≡ contentsSize (length ls) = omega arith in
-      let n : length (catalogueBytes ls) ≡ contentsSize (length ls) + length (join (map bodyBytes ls)) = omega (arith, length-append (contentsBytes ls (contentsSize (length ls))) (join (map bodyBytes ls))) in
-      record {
-        contents = stands-first (catalogueBytes ls) 1 (contentsBytes ls (contentsSize (length ls))) (join (map bodyBytes ls)) rest;
-        bodies = subst (λ (k : ℕ). Stands (catalogueBytes ls) k (join (map bodyBytes ls))) e (stands-rest (catalogueBytes ls) 1 (contentsBytes ls (contentsSize (length ls))) (join (map bodyBytes ls)) rest);
-        ends = n;
-        small = omega (arith, bodies-most h, lists-few h);
-      }
+  catalogue-length = omega (arith, length-append contents (bodiesBytes ls), contents-length ls start firstEntry)
+
+  -- Every offset fits its bytes.
+  catalogue-small : length (catalogueBytes ls) < 256 ^ offsetSize
+  catalogue-small = omega (arith, catalogue-length, bodies-most h, lists-few h, behind-lists-most ls firstEntry)
+
+  rest-stands-behind : Stands (catalogueBytes ls) firstEntry (contents ++ bodiesBytes ls)
+  unfolding catalogueBytes
+  rest-stands-behind = stands-rest (catalogueBytes ls) 0 (length ls ∷ []) (contents ++ bodiesBytes ls) (stands-whole (catalogueBytes ls))
+
+  pub catalogue-laid : Laid (catalogueBytes ls) ls firstEntry start
+  catalogue-laid = record {
+    contents = stands-first (catalogueBytes ls) firstEntry contents (bodiesBytes ls) rest-stands-behind;
+    bodies =
+        subst (λ (k : ℕ). Stands (catalogueBytes ls) k (bodiesBytes ls)) (contents-length ls start firstEntry)
+        (stands-rest (catalogueBytes ls) firstEntry contents (bodiesBytes ls) rest-stands-behind);
+    ends = catalogue-length;
+    small = catalogue-small;
+  }
 
   pub catalogue-count : byteAt (catalogueBytes ls) 0 ≡ length ls
   unfolding catalogueBytes
   catalogue-count = refl
 
+  pub contents-end : contentsEnd (catalogueBytes ls) ≡ start
+  contents-end = rw catalogue-count (entries-behind (catalogueBytes ls) firstEntry start h catalogue-laid)
+
   pub catalogue-written : catalogueForm (catalogueBytes ls) ≡ true
   catalogue-written =
-      let c = catalogue-count in
-      let p = catalogue-laid in
-      catalogue-entries (catalogueBytes ls) (omega (arith, p .ends)) (omega (arith, lists-few h)) (omega (arith, p .ends))
-      ∙ rw c (entries-written (catalogueBytes ls) 0 (contentsSize (length ls)) h p)
+      let s = catalogueBytes ls in
+      let nonempty : 1 ≤ length s = omega (arith, contents-length ls start firstEntry, catalogue-length) in
+      catalogue-entries s nonempty (omega (arith, catalogue-count, lists-few h)) (omega (arith, contents-end, catalogue-length))
+      ∙ rw (contents-end, catalogue-count) (entries-written s firstEntry start h catalogue-laid)

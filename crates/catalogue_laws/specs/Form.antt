@@ -1,109 +1,71 @@
 -- The form of a catalogue, read out: numbers in bytes, rows, entries, and what a well-formed catalogue says of each entry.
--- Each test of the form by its definition; the entries by the recursion over them, the place of a body going along.
+-- Each test of the form by its definition; the entries by the recursion over them, the place of an entry and that of its body going along.
 -- Assumes nothing.
 use mathlib.Core.Path.{_≡_, refl}
 use mathlib.Core.Bool.{Bool, true, false, _&&_, and-eq-true-iff}
 use mathlib.Core.List.{List}
-use Prim.Native.Nat.{ℕ, zero, suc, _+_, _-_, _*_, _%_, _^_, _<_, _≤_}
-use native.Mathlib.Nat.{zero-add, add-zero, mul-le-mul-left, mul-le-mul-right, suc-mul}
+use Prim.Native.Nat.{ℕ, zero, suc, _+_, _-_, _*_, _^_, _<_, _≤_}
+use native.Mathlib.Nat.{zero-add, add-zero}
+use native.Mathlib.Numerals.{add-one}
 use native.Mathlib.Omega.{arith}
-use native.Mathlib.Decide.{ℕ-discrete}
-use lib.Dec.{eqb, leb}
-use lib.Pow.{pow-mono}
+use lib.Dec.{eqb, leb, ltb}
 use lib.ListN.{length}
 use borrow.Author.Tests.{leb-true, ltb-true, eqb-true, lt-ltb, le-ltb, lt-leb, le-leb, eq-eqb, ne-eqb}
 use Rattle.definitions.specs.Number.{every}
 use Rattle.definitions.specs.Generator.{lawfulDegree}
-use Rattle.definitions.specs.Ranking.{lawfulTop}
-use Rattle.definitions.specs.Catalogue.{byteAt, numberAt, Entry, entryAt, bodySize, mostEntries, contentsSize, rowSize, rowForm, entryForm, entriesForm, catalogueForm}
+use Rattle.definitions.specs.Ranking.{leastTop, lawfulTop}
+use Rattle.definitions.specs.Catalogue.{byteAt, numberAt, numberSize, numbersSize, rowSize, Entry, entryAt, firstEntry, behindEntry, behindEntries}
+use Rattle.definitions.specs.Catalogue.{contentsEnd, bodySize, mostEntries, rowForm, entryForm, entriesForm, catalogueForm}
+use Rattle.number_laws.specs.Bounds.{LawfulDegree, LawfulTop, lawfulDegree-is, lawfulTop-is}
 
 -- ---- numbers
 
-pub number-two : (s : List ℕ) (i : ℕ) → numberAt 2 s i ≡ byteAt s i * 256 + byteAt s (i + 1)
+pub number-none : (s : List ℕ) (i : ℕ) → numberAt 0 s i ≡ 0
 unfolding numberAt
-number-two s i = rw (add-zero, zero-add)
+number-none s i = refl
 
-pub number-four : (s : List ℕ) (i : ℕ) → numberAt 4 s i ≡ numberAt 2 s i * 65536 + numberAt 2 s (i + 2)
+pub number-more : (w : ℕ) (s : List ℕ) (i : ℕ) → numberAt (w + 1) s i ≡ numberAt w s i * 256 + byteAt s (i + w)
 unfolding numberAt
-number-four s i = let e : i + 2 + 1 ≡ i + 3 = omega arith in simp (add-zero, e) (omega arith)
+number-more w s i = rw add-one
 
--- A row count times the size of a row stays far below a machine word.
-pub size-fits : (a b : ℕ) → a < 65536 → b < 65536 → a * b < 2 ^ 64
-size-fits a b h k =
-    let u : a * b ≤ a * 65536 = mul-le-mul-left a (omega arith) in
-    omega arith
+pub number-one : (s : List ℕ) (i : ℕ) → numberAt 1 s i ≡ byteAt s i
+unfolding numberAt
+number-one s i = rw (add-zero, zero-add)
 
--- A one shifted by a lawful degree.
-pub one-shl : (m : ℕ) → m ≤ 16 → 1 * 2 ^ m % 2 ^ 32 ≡ 2 ^ m
-one-shl m h = let l : 2 ^ m ≤ 2 ^ 16 = pow-mono h in omega arith
+-- ---- rows
 
--- One row less, and at most as many.
-pub size-less : (n w : ℕ) → 0 < n → n * w ≡ (n - 1) * w + w
-size-less zero w l = absurd (omega arith)
-size-less (suc n) w l = let d : suc n - 1 ≡ n = omega arith in rw d (suc-mul n w)
+-- p's low part, q and σ are below 2^m.
+abbrev pub numbersForm : ℕ → List ℕ → ℕ → Bool
+numbersForm m s at = every 3 (λ (k : ℕ). ltb (numberAt (numberSize m) s (at + k * numberSize m)) (2 ^ m))
 
-pub size-most : (n k w : ℕ) → n ≤ k → n * w ≤ k * w
-size-most n k w l = mul-le-mul-right w l
+-- Each t is at most m.
+abbrev pub valuesForm : ℕ → ℕ → List ℕ → ℕ → Bool
+valuesForm m top s at = every (suc top - leastTop) (λ (k : ℕ). leb (byteAt s (at + numbersSize m + k)) m)
 
--- ---- tests
+module _ (m top : ℕ) (s : List ℕ) (at : ℕ) where
+  pub row-stop : numbersForm m s at ≡ false → rowForm m top s at ≡ false
+  unfolding rowForm
+  row-stop h = rw h
+
+  pub row-values : numbersForm m s at ≡ true → rowForm m top s at ≡ valuesForm m top s at
+  unfolding rowForm
+  row-values h = rw h
+
+-- The n rows of a body are of the form.
+abbrev pub rowsForm : ℕ → ℕ → List ℕ → ℕ → ℕ → Bool
+rowsForm m top s at n = every n (λ (k : ℕ). rowForm m top s (at + k * rowSize m top))
+
+-- ---- entries
 
 and-out : (a b : Bool) → (a && b) ≡ true → (a ≡ true) × (b ≡ true)
 and-out a b t = and-eq-true-iff a b .0 t
 
--- A test of every number below n, the last one first.
-pub every-none : (n : ℕ) (test : ℕ → Bool) → n ≤ 0 → every n test ≡ true
-unfolding every
-every-none zero test l = refl
-every-none (suc n) test l = absurd (omega arith)
-
-pub every-on : (n : ℕ) (test : ℕ → Bool) → 0 < n → test (n - 1) ≡ true → every n test ≡ every (n - 1) test
-unfolding every
-every-on zero test l e = absurd (omega arith)
-every-on (suc n) test l e = let d : suc n - 1 ≡ n = omega arith in let f : test n ≡ true = rw d at e in rw (d, f)
-
-pub every-stop : (n : ℕ) (test : ℕ → Bool) → 0 < n → test (n - 1) ≡ false → every n test ≡ false
-unfolding every
-every-stop zero test l e = absurd (omega arith)
-every-stop (suc n) test l e = let d : suc n - 1 ≡ n = omega arith in let f : test n ≡ false = rw d at e in rw f
-
-pub degree-bounds : (m : ℕ) → lawfulDegree m ≡ true → (2 ≤ m) × (m ≤ 16)
-degree-bounds m t = let a = and-out _ _ t in (leb-true 2 m (a .0), leb-true m 16 (a .1))
-
-pub top-bounds : (t : ℕ) → lawfulTop t ≡ true → (3 ≤ t) × (t ≤ 8)
-top-bounds m t = let a = and-out _ _ t in (leb-true 3 m (a .0), leb-true m 8 (a .1))
-
--- ---- rows
-
-module _ (m top : ℕ) (s : List ℕ) (at : ℕ) where
-  pub row-p : 2 ^ m ≤ numberAt 2 s at → rowForm m top s at ≡ false
-  unfolding rowForm
-  row-p h = rw (le-ltb (numberAt 2 s at) (2 ^ m) h)
-
-  pub row-q : numberAt 2 s at < 2 ^ m → 2 ^ m ≤ numberAt 2 s (at + 2) → rowForm m top s at ≡ false
-  unfolding rowForm
-  row-q p h = rw (lt-ltb (numberAt 2 s at) (2 ^ m) p, le-ltb (numberAt 2 s (at + 2)) (2 ^ m) h)
-
-  pub row-step : numberAt 2 s at < 2 ^ m → numberAt 2 s (at + 2) < 2 ^ m → 2 ^ m ≤ numberAt 2 s (at + 4) → rowForm m top s at ≡ false
-  unfolding rowForm
-  row-step p q h =
-      rw (lt-ltb (numberAt 2 s at) (2 ^ m) p, lt-ltb (numberAt 2 s (at + 2)) (2 ^ m) q, le-ltb (numberAt 2 s (at + 4)) (2 ^ m) h)
-
-  pub row-values : numberAt 2 s at < 2 ^ m → numberAt 2 s (at + 2) < 2 ^ m → numberAt 2 s (at + 4) < 2 ^ m
-      → rowForm m top s at ≡ every (suc top - 3) (λ (k : ℕ). leb (byteAt s (at + 6 + k)) m)
-  unfolding rowForm
-  row-values p q h =
-      rw (lt-ltb (numberAt 2 s at) (2 ^ m) p, lt-ltb (numberAt 2 s (at + 2)) (2 ^ m) q, lt-ltb (numberAt 2 s (at + 4)) (2 ^ m) h)
-
--- ---- entries
-
 -- What a well-formed file says of an entry.
 pub record LawfulEntry (s : List ℕ) (e : Entry) : Type 0 where
-  pub degree-least : 2 ≤ e .degree
-  pub degree-most : e .degree ≤ 16
-  pub top-least : 3 ≤ e .top
-  pub top-most : e .top ≤ 8
+  pub lawful-degree : LawfulDegree (e .degree)
+  pub lawful-top : LawfulTop (e .top)
   pub within : e .offset + bodySize e ≤ length s
-  pub rows-form : every (e .rows) (λ (k : ℕ). rowForm (e .degree) (e .top) s (e .offset + k * rowSize (e .top))) ≡ true
+  pub rows-form : rowsForm (e .degree) (e .top) s (e .offset) (e .rows) ≡ true
 
 -- One entry's tests, read out.
 pub record EntryTests (s : List ℕ) (e : Entry) (last at : ℕ) : Type 0 where
@@ -115,19 +77,15 @@ pub entry-tests : (s : List ℕ) (e : Entry) (last at : ℕ) → entryForm s e l
 unfolding entryForm
 entry-tests s e last at t =
     let a = and-out _ _ t in
-    let d = degree-bounds (e .degree) (a .0) in
     let b = and-out _ _ (a .1) in
     let c = and-out _ _ (b .1) in
-    let u = top-bounds (e .top) (c .0) in
     let f = and-out _ _ (c .1) in
     let g = and-out _ _ (f .1) in
     let o = eqb-true (e .offset) at (f .0) in
     record {
       lawful = record {
-        degree-least = d .0;
-        degree-most = d .1;
-        top-least = u .0;
-        top-most = u .1;
+        lawful-degree = lawfulDegree-is (e .degree) .0 (a .0);
+        lawful-top = lawfulTop-is (e .top) .0 (c .0);
         within = rw o (leb-true _ _ (g .0));
         rows-form = rw o (g .1);
       };
@@ -161,42 +119,62 @@ module _ (s : List ℕ) (e : Entry) (last at : ℕ) where
           unfolding entryForm
           entry-size z = rw (d, lt-ltb last (e .degree) a, t, eq-eqb (e .offset) at o, lt-leb (at + bodySize e) (length s) z)
 
-          pub entry-rows : at + bodySize e ≤ length s
-              → entryForm s e last at ≡ every (e .rows) (λ (k : ℕ). rowForm (e .degree) (e .top) s (at + k * rowSize (e .top)))
+          pub entry-rows : at + bodySize e ≤ length s → entryForm s e last at ≡ rowsForm (e .degree) (e .top) s at (e .rows)
           unfolding entryForm
           entry-rows z = rw (d, lt-ltb last (e .degree) a, t, eq-eqb (e .offset) at o, le-leb (at + bodySize e) (length s) z)
 
 pub entry-within : (s : List ℕ) (e : Entry) (last at : ℕ) → entryForm s e last at ≡ true → at + bodySize e ≤ length s
 entry-within s e last at t = let r = entry-tests s e last at t in omega (arith, r .placed, r .lawful .within)
 
--- The entries, as a walk makes them.
+pub entry-at-degree : (s : List ℕ) (i : ℕ) → entryAt s i .degree ≡ byteAt s i
+unfolding entryAt
+entry-at-degree s i = refl
+
+-- ---- the places of entries
+
+-- The place behind k entries is not before the first of them, and where there is one, not before the place behind that one.
+pub behind-least : (s : List ℕ) (k i : ℕ) → i ≤ behindEntries s k i
+unfolding behindEntries
+behind-least s zero i = omega arith
+behind-least s (suc k) i = omega (arith, behind-least s k (behindEntry s i))
+
+pub behind-none : (s : List ℕ) (k i : ℕ) → k ≤ 0 → behindEntries s k i ≡ i
+unfolding behindEntries
+behind-none s zero i l = refl
+behind-none s (suc k) i l = absurd (omega arith)
+
+pub behind-on : (s : List ℕ) (k i : ℕ) → 0 < k → behindEntries s k i ≡ behindEntries s (k - 1) (behindEntry s i)
+unfolding behindEntries
+behind-on s zero i l = absurd (omega arith)
+behind-on s (suc k) i l = let d : suc k - 1 ≡ k = omega arith in rw d
+
+pub behind-first : (s : List ℕ) (k i : ℕ) → 0 < k → behindEntry s i ≤ behindEntries s k i
+behind-first s k i l = rw (behind-on s k i l) (behind-least s (k - 1) (behindEntry s i))
+
+-- ---- all entries, as a walk makes them
+
 pub entries-end : (s : List ℕ) (k i last at : ℕ) → k ≤ 0 → entriesForm s k i last at ≡ eqb at (length s)
 unfolding entriesForm
 entries-end s zero i last at l = refl
 entries-end s (suc k) i last at l = absurd (omega arith)
 
 pub entries-on : (s : List ℕ) (k i last at : ℕ) → 0 < k → entryForm s (entryAt s i) last at ≡ true
-    → entriesForm s k i last at ≡ entriesForm s (k - 1) (i + 1) (entryAt s i .degree) (at + bodySize (entryAt s i))
+    → entriesForm s k i last at ≡ entriesForm s (k - 1) (behindEntry s i) (entryAt s i .degree) (at + bodySize (entryAt s i))
 unfolding entriesForm
 entries-on s zero i last at l e = absurd (omega arith)
-entries-on s (suc k) i last at l e = let d : suc k - 1 ≡ k = omega arith in let f : i + 1 ≡ suc i = omega arith in rw (e, d, f)
+entries-on s (suc k) i last at l e = let d : suc k - 1 ≡ k = omega arith in rw (e, d)
 
 pub entries-stop : (s : List ℕ) (k i last at : ℕ) → 0 < k → entryForm s (entryAt s i) last at ≡ false → entriesForm s k i last at ≡ false
 unfolding entriesForm
 entries-stop s zero i last at l e = absurd (omega arith)
 entries-stop s (suc k) i last at l e = rw e
 
--- Each of the k entries from i on is lawful.
-pub entries-lawful : (s : List ℕ) (k i last at : ℕ) → entriesForm s k i last at ≡ true → (j : ℕ) → i ≤ j → j < i + k → LawfulEntry s (entryAt s j)
+-- The first of the entries passes, and so do those behind it.
+pub entries-out : (s : List ℕ) (k i last at : ℕ) → entriesForm s (suc k) i last at ≡ true
+    → EntryTests s (entryAt s i) last at
+    × (entriesForm s k (behindEntry s i) (entryAt s i .degree) (at + bodySize (entryAt s i)) ≡ true)
 unfolding entriesForm
-entries-lawful s zero i last at t j l h = absurd (omega arith)
-entries-lawful s (suc k) i last at t j l h =
-    let a = and-out _ _ t in
-    go (ℕ-discrete i j) (entry-tests s (entryAt s i) last at (a .0) .lawful) (entries-lawful s k (suc i) _ _ (a .1) j)
-  where
-    go : Dec (i ≡ j) → LawfulEntry s (entryAt s i) → (suc i ≤ j → j < suc i + k → LawfulEntry s (entryAt s j)) → LawfulEntry s (entryAt s j)
-    go (yes e) f ih = rw e at f
-    go (no e) f ih = ih (omega arith) (omega arith)
+entries-out s k i last at t = let a = and-out _ _ t in (entry-tests s (entryAt s i) last at (a .0), a .1)
 
 -- ---- the catalogue
 
@@ -212,28 +190,25 @@ module _ (s : List ℕ) where
     catalogue-many k = rw (le-leb 1 (length s) h, lt-leb (byteAt s 0) mostEntries k)
 
     module _ (k : byteAt s 0 ≤ mostEntries) where
-      pub catalogue-short : length s < contentsSize (byteAt s 0) → catalogueForm s ≡ false
+      pub catalogue-short : length s < contentsEnd s → catalogueForm s ≡ false
       unfolding catalogueForm
-      catalogue-short l = rw (le-leb 1 (length s) h, le-leb (byteAt s 0) mostEntries k, lt-leb (contentsSize (byteAt s 0)) (length s) l)
+      catalogue-short l = rw (le-leb 1 (length s) h, le-leb (byteAt s 0) mostEntries k, lt-leb (contentsEnd s) (length s) l)
 
-      pub catalogue-entries : contentsSize (byteAt s 0) ≤ length s → catalogueForm s ≡ entriesForm s (byteAt s 0) 0 0 (contentsSize (byteAt s 0))
+      pub catalogue-entries : contentsEnd s ≤ length s → catalogueForm s ≡ entriesForm s (byteAt s 0) firstEntry 0 (contentsEnd s)
       unfolding catalogueForm
-      catalogue-entries l = rw (le-leb 1 (length s) h, le-leb (byteAt s 0) mostEntries k, le-leb (contentsSize (byteAt s 0)) (length s) l)
+      catalogue-entries l = rw (le-leb 1 (length s) h, le-leb (byteAt s 0) mostEntries k, le-leb (contentsEnd s) (length s) l)
 
 -- What a well-formed catalogue says as a whole.
-pub record WellFormed (s : List ℕ) : Type 0 where
+pub record CatalogueForm (s : List ℕ) : Type 0 where
   pub nonempty : 1 ≤ length s
   pub few : byteAt s 0 ≤ mostEntries
-  pub contents : contentsSize (byteAt s 0) ≤ length s
-  pub entries : entriesForm s (byteAt s 0) 0 0 (contentsSize (byteAt s 0)) ≡ true
+  pub contents : contentsEnd s ≤ length s
+  pub entries : entriesForm s (byteAt s 0) firstEntry 0 (contentsEnd s) ≡ true
 
-pub well-formed : (s : List ℕ) → catalogueForm s ≡ true → WellFormed s
+pub catalogue-form : (s : List ℕ) → catalogueForm s ≡ true → CatalogueForm s
 unfolding catalogueForm
-well-formed s t =
+catalogue-form s t =
     let a = and-out _ _ t in
     let b = and-out _ _ (a .1) in
     let c = and-out _ _ (b .1) in
     record { nonempty = leb-true 1 (length s) (a .0); few = leb-true _ _ (b .0); contents = leb-true _ _ (c .0); entries = c .1 }
-
-pub entry-lawful : (s : List ℕ) → catalogueForm s ≡ true → (i : ℕ) → i < byteAt s 0 → LawfulEntry s (entryAt s i)
-entry-lawful s t i h = entries-lawful s (byteAt s 0) 0 0 _ (well-formed s t .entries) i (omega arith) (omega arith)

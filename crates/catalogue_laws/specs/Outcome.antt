@@ -1,32 +1,62 @@
 -- The two outcomes of a lookup: an entry that is lawful and of the degree asked, with its numbers and its part; or a refusal, with nothing.
--- By the three situations of a lookup, each told apart. Assumes nothing.
-use mathlib.Core.Path.{_≡_, refl}
+-- By the three situations of a lookup: the first that applies decides, and where none does the entry is found. Assumes nothing.
+use mathlib.Core.Path.{_≡_, ap}
 use mathlib.Core.Logic.{_⊎_, inl, inr}
-use mathlib.Core.Bool.{Bool, true, false}
+use mathlib.Core.Bool.{true, false, not}
 use mathlib.Core.List.{List, []}
-use Prim.Native.Nat.{ℕ, _<_}
+use Prim.Native.Nat.{ℕ}
 use native.Mathlib.Omega.{arith}
-use lib.Dec.{eqb}
 use lib.ListN.{length, take, drop, length-take, length-drop}
-use borrow.Author.Tests.{eqb-false, ne-eqb}
-use Rattle.definitions.specs.Answers.{unless}
+use borrow.Author.Tests.{eqb-false, eq-eqb, ne-eqb, not-false}
 use Rattle.definitions.specs.Generator.{lawfulDegree}
-use Rattle.definitions.specs.Catalogue.{Entry, byteAt, entryAt, bodySize, catalogueForm, looking, entryOf, lookupNumbers, lookupPart, readerTop}
+use Rattle.definitions.specs.Catalogue.{Entry, entryAt, contentsEnd, bodySize, catalogueForm, looking, entryOf, lookupNumbers, lookupPart, readerTop}
 use Rattle.definitions.specs.declared.Refusal.{Refusal}
 use Rattle.definitions.specs.declared.Refusal.the-variants.{WrongDegree, IllFormedCatalogue, DegreeMissing}
 use Rattle.definitions.specs.declared.Lookup.the-variants.{Body, NoBody}
-use Rattle.catalogue_laws.specs.Form.{LawfulEntry, entry-lawful}
-use Rattle.catalogue_laws.specs.Lookup.{entry-of-most, entry-of-degree}
+use Rattle.answer_laws.specs.Unless.{Decides, here, later, NoneApplies, passes, at-end, Outcome, is-refused, is-given, outcome, unless-refused, unless-given}
+use Rattle.catalogue_laws.specs.Lookup.{FoundEntry, entry-found}
 
 -- The entry of the degree m.
 abbrev pub entryFor : List ℕ → ℕ → Entry
 entryFor s m = entryAt s (entryOf s m)
 
+-- ---- the situations, as a walk finds them
+
+module _ (s : List ℕ) (m : ℕ) where
+  pub looking-degree : lawfulDegree m ≡ false → Decides WrongDegree (looking s m)
+  unfolding looking
+  looking-degree d = here (ap not d)
+
+  module _ (d : lawfulDegree m ≡ true) where
+    pub looking-form : catalogueForm s ≡ false → Decides IllFormedCatalogue (looking s m)
+    unfolding looking
+    looking-form f = later (ap not d) (here (ap not f))
+
+    module _ (f : catalogueForm s ≡ true) where
+      pub looking-missing : entryOf s m ≡ 0 → Decides DegreeMissing (looking s m)
+      unfolding looking
+      looking-missing e = later (ap not d) (later (ap not f) (here (eq-eqb (entryOf s m) 0 e)))
+
+      pub looking-finds : (entryOf s m ≡ 0 → ⊥) → NoneApplies (looking s m)
+      unfolding looking
+      looking-finds n = passes (ap not d) (passes (ap not f) (passes (ne-eqb (entryOf s m) 0 n) at-end))
+
+  -- What is known where none applies.
+  pub record Finds : Type 0 where
+    pub lawful-degree : lawfulDegree m ≡ true
+    pub form : catalogueForm s ≡ true
+    pub found : FoundEntry s (contentsEnd s) m (entryOf s m)
+
+  pub looking-found : NoneApplies (looking s m) → Finds
+  unfolding looking
+  looking-found (passes d (passes f (passes e at-end))) =
+      let form = not-false (catalogueForm s) f in
+      record { lawful-degree = not-false (lawfulDegree m) d; form = form; found = entry-found s m form (eqb-false (entryOf s m) 0 e) }
+
+-- ---- the answers
+
 pub record Given (s : List ℕ) (m : ℕ) : Type 0 where
-  pub form : catalogueForm s ≡ true
-  pub lawful-degree : lawfulDegree m ≡ true
-  pub lawful : LawfulEntry s (entryFor s m)
-  pub degree-is : entryFor s m .degree ≡ m
+  pub finds : Finds s m
   pub numbers-are : lookupNumbers s m ≡ Body (entryFor s m .top) (entryFor s m .rows)
   pub part-is : lookupPart s m ≡ take (bodySize (entryFor s m)) (drop (entryFor s m .offset) s)
   pub top-is : readerTop s m ≡ entryFor s m .top
@@ -37,33 +67,24 @@ pub record Refused (s : List ℕ) (m : ℕ) : Type 0 where
   pub part-is : lookupPart s m ≡ []
   pub top-is : readerTop s m ≡ 0
 
-pub lookup-given : (s : List ℕ) (m : ℕ) → lawfulDegree m ≡ true → catalogueForm s ≡ true → entryOf s m < byteAt s 0 → Given s m
-unfolding lookupNumbers lookupPart readerTop looking unless
-lookup-given s m d f l =
-    let v = ne-eqb (entryOf s m) (byteAt s 0) (λ e. omega arith) in
-    record {
-      form = f;
-      lawful-degree = d;
-      lawful = entry-lawful s f (entryOf s m) l;
-      degree-is = entry-of-degree s m l;
-      numbers-are = rw (d, f, v);
-      part-is = rw (d, f, v);
-      top-is = rw (d, f, v);
-    }
+pub lookup-given : (s : List ℕ) (m : ℕ) → NoneApplies (looking s m) → Given s m
+unfolding lookupNumbers lookupPart readerTop
+lookup-given s m n =
+    record { finds = looking-found s m n; numbers-are = unless-given _ _ n; part-is = unless-given _ _ n; top-is = unless-given _ _ n }
+
+pub lookup-refused : (s : List ℕ) (m : ℕ) {r : Refusal} → Decides r (looking s m) → Refused s m
+unfolding lookupNumbers lookupPart readerTop
+lookup-refused s m {r} d =
+    record { refusal = r; numbers-are = unless-refused _ _ d; part-is = unless-refused _ _ d; top-is = unless-refused _ _ d }
 
 pub lookup-outcome : (s : List ℕ) (m : ℕ) → Given s m ⊎ Refused s m
-unfolding lookupNumbers lookupPart readerTop looking unless
-lookup-outcome s m = go (lawfulDegree m) refl (catalogueForm s) refl (eqb (entryOf s m) (byteAt s 0)) refl
+lookup-outcome s m = go (outcome (looking s m))
   where
-    go : (d : Bool) → lawfulDegree m ≡ d → (f : Bool) → catalogueForm s ≡ f → (g : Bool) → eqb (entryOf s m) (byteAt s 0) ≡ g → Given s m ⊎ Refused s m
-    go false d f u g v = inr (record { refusal = WrongDegree; numbers-are = rw d; part-is = rw d; top-is = rw d })
-    go true d false u g v = inr (record { refusal = IllFormedCatalogue; numbers-are = rw (d, u); part-is = rw (d, u); top-is = rw (d, u) })
-    go true d true u true v = inr (record { refusal = DegreeMissing; numbers-are = rw (d, u, v); part-is = rw (d, u, v); top-is = rw (d, u, v) })
-    go true d true u false v =
-        let n = eqb-false (entryOf s m) (byteAt s 0) v in
-        inl (lookup-given s m d u (omega (arith, entry-of-most s m)))
+    go : Outcome (looking s m) → Given s m ⊎ Refused s m
+    go (is-refused d) = inr (lookup-refused s m d)
+    go (is-given n) = inl (lookup-given s m n)
 
 -- The part has as many rows as the entry says.
 pub part-length : (s : List ℕ) (m : ℕ) → Given s m → length (lookupPart s m) ≡ bodySize (entryFor s m)
 part-length s m g =
-    rw (g .part-is) (simp (length-take, length-drop) (omega (arith, g .lawful .within)))
+    rw (g .part-is) (simp (length-take, length-drop) (omega (arith, g .finds .found .lawful .within)))

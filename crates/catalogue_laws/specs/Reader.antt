@@ -1,7 +1,7 @@
 -- A reader that a lookup opens hands out the rows of the body, in order, as many as the entry says, and then the end, where it stays.
 -- Row k starts at k times a row's size, which is a whole row's start as long as k is below the row count; the place behind it is row k + 1's.
 -- Assumes nothing.
-use mathlib.Core.Path.{_≡_, refl, sym, ap, ap₂, _∙_}
+use mathlib.Core.Path.{_≡_, refl, sym, ap, _∙_}
 use mathlib.Core.Logic.{_⊎_, inl, inr}
 use mathlib.Core.Bool.{Bool, true, false, and-false}
 use mathlib.Core.List.{List, [], _∷_, _++_, map}
@@ -18,6 +18,8 @@ use Rattle.definitions.specs.Catalogue.{rowSize, atRow, rowAt, nextRow, nextPla
 use Rattle.definitions.specs.declared.NextRow.{NextRow}
 use Rattle.definitions.specs.declared.NextRow.the-variants.{Found, End}
 use Rattle.definitions.specs.declared.Lookup.the-variants.{Body}
+use Rattle.number_laws.specs.Bounds.{lawfulTop-is}
+use Rattle.catalogue_laws.specs.Sizes.{row-size-least}
 use Rattle.catalogue_laws.specs.Reading.{next-end, next-found, next-place-end, next-place-row, at-row-degree, at-row-top}
 use Rattle.catalogue_laws.specs.Outcome.{Given, Refused, lookup-outcome, part-length, entryFor}
 
@@ -28,9 +30,9 @@ handsOut zero m top body place = []
 handsOut (suc n) m top body place = nextRow m top body place ∷ handsOut n m top body (nextPlace m top body place)
 
 -- Rows k .. k + n - 1 of a body.
-unfoldable pub rowsFrom : ℕ → ℕ → List ℕ → ℕ → ℕ → List NextRow
+unfoldable pub bodyRows : ℕ → ℕ → List ℕ → ℕ → ℕ → List NextRow
 unfolding numbers rowAt
-rowsFrom m top body k n = map (λ (i : ℕ). Found (rowAt m top body (i * rowSize top))) (numbers k n)
+bodyRows m top body k n = map (λ (i : ℕ). Found (rowAt m top body (i * rowSize m top))) (numbers k n)
 
 -- At the end it stays.
 pub hands-out-end : (n m top : ℕ) (body : List ℕ) (place : ℕ) → atRow m top body place ≡ false → handsOut n m top body place ≡ replicate n End
@@ -39,49 +41,53 @@ hands-out-end zero m top body place e = refl
 hands-out-end (suc n) m top body place e =
     rw (next-end m top body place e, next-place-end m top body place e) (ap (_∷_ End) (hands-out-end n m top body place e))
 
-module _ (m top rows : ℕ) (body : List ℕ) (d : lawfulDegree m ≡ true) (t : lawfulTop top ≡ true) (size : length body ≡ rows * rowSize top) where
-  row-starts : (k : ℕ) → k < rows → atRow m top body (k * rowSize top) ≡ true
+module _ (m top rows : ℕ) (body : List ℕ) (d : lawfulDegree m ≡ true) (t : lawfulTop top ≡ true) (size : length body ≡ rows * rowSize m top) where
+  row-starts : (k : ℕ) → k < rows → atRow m top body (k * rowSize m top) ≡ true
   unfolding atRow
   row-starts k l =
-      let more : suc k * rowSize top ≤ rows * rowSize top = mul-le-mul-right (rowSize top) l in
-      rw (d, t, eq-eqb (k * rowSize top % rowSize top) 0 (mul-mod-left k (rowSize top)), le-leb (k * rowSize top + rowSize top) (length body) (omega (arith, suc-mul k (rowSize top))))
+      let more : suc k * rowSize m top ≤ rows * rowSize m top = mul-le-mul-right (rowSize m top) l in
+      let start = eq-eqb (k * rowSize m top % rowSize m top) 0 (mul-mod-left k (rowSize m top)) in
+      let whole = le-leb (k * rowSize m top + rowSize m top) (length body) (omega (arith, suc-mul k (rowSize m top))) in
+      rw (d, t, start, whole)
 
-  rows-end : atRow m top body (rows * rowSize top) ≡ false
+  rows-end : atRow m top body (rows * rowSize m top) ≡ false
   unfolding atRow
-  rows-end = rw (d, t, lt-leb (rows * rowSize top + rowSize top) (length body) (omega arith)) (and-false (eqb (rows * rowSize top % rowSize top) 0))
+  rows-end =
+      rw (d, t, lt-leb (rows * rowSize m top + rowSize m top) (length body) (omega (arith, row-size-least m top)))
+      (and-false (eqb (rows * rowSize m top % rowSize m top) 0))
 
-  hands-out-rows : (j k n : ℕ) → k + j ≡ rows → handsOut (j + n) m top body (k * rowSize top) ≡ rowsFrom m top body k j ++ replicate n End
-  unfolding handsOut rowsFrom numbers
+  hands-out-rows : (j k n : ℕ) → k + j ≡ rows → handsOut (j + n) m top body (k * rowSize m top) ≡ bodyRows m top body k j ++ replicate n End
+  unfolding handsOut bodyRows numbers
   hands-out-rows zero k n e =
       let f : k ≡ rows = omega arith in
-      rw (zero-add, f) (hands-out-end n m top body (rows * rowSize top) rows-end)
+      rw (zero-add, f) (hands-out-end n m top body (rows * rowSize m top) rows-end)
   hands-out-rows (suc j) k n e = rw suc-add (turn (hands-out-rows j (suc k) n (omega arith)))
     where
-      turn : handsOut (j + n) m top body (suc k * rowSize top) ≡ rowsFrom m top body (suc k) j ++ replicate n End
-          → handsOut (suc (j + n)) m top body (k * rowSize top) ≡ rowsFrom m top body k (suc j) ++ replicate n End
+      turn : handsOut (j + n) m top body (suc k * rowSize m top) ≡ bodyRows m top body (suc k) j ++ replicate n End
+          → handsOut (suc (j + n)) m top body (k * rowSize m top) ≡ bodyRows m top body k (suc j) ++ replicate n End
       turn ih =
           let at = row-starts k (omega arith) in
-          rw (next-found m top body (k * rowSize top) at, next-place-row m top body (k * rowSize top) at, ← suc-mul k (rowSize top))
-          (ap (_∷_ (Found (rowAt m top body (k * rowSize top)))) ih)
+          rw (next-found m top body (k * rowSize m top) at, next-place-row m top body (k * rowSize m top) at, ← suc-mul k (rowSize m top))
+          (ap (_∷_ (Found (rowAt m top body (k * rowSize m top)))) ih)
 
 -- ---- the theorem
 
 top-lawful : (s : List ℕ) (m : ℕ) → Given s m → lawfulTop (entryFor s m .top) ≡ true
-top-lawful s m g = rw (le-leb 3 (entryFor s m .top) (g .lawful .top-least), le-leb (entryFor s m .top) 8 (g .lawful .top-most))
+top-lawful s m g = lawfulTop-is (entryFor s m .top) .1 (g .finds .found .lawful .lawful-top)
 
 -- A reader that is opened with a degree: the rows, and then the end, however often it is asked.
 pub reader-hands-out : (s : List ℕ) (m top rows n : ℕ) → lookupNumbers s m ≡ Body top rows
-    → handsOut (rows + n) m (readerTop s m) (lookupPart s m) 0 ≡ rowsFrom m top (lookupPart s m) 0 rows ++ replicate n End
+    → handsOut (rows + n) m (readerTop s m) (lookupPart s m) 0 ≡ bodyRows m top (lookupPart s m) 0 rows ++ replicate n End
 reader-hands-out s m top rows n e = go (lookup-outcome s m)
   where
-    go : Given s m ⊎ Refused s m → handsOut (rows + n) m (readerTop s m) (lookupPart s m) 0 ≡ rowsFrom m top (lookupPart s m) 0 rows ++ replicate n End
+    go : Given s m ⊎ Refused s m → handsOut (rows + n) m (readerTop s m) (lookupPart s m) 0 ≡ bodyRows m top (lookupPart s m) 0 rows ++ replicate n End
     go (inl g) =
         let t : entryFor s m .top ≡ top = cc (g .numbers-are) in
         let r : entryFor s m .rows ≡ rows = cc (g .numbers-are) in
-        let z : 0 * rowSize top ≡ 0 = zero-mul (rowSize top) in
-        let size : length (lookupPart s m) ≡ rows * rowSize top = part-length s m g ∙ ap₂ (λ (a b : ℕ). a * rowSize b) r t in
+        let z : 0 * rowSize m top ≡ 0 = zero-mul (rowSize m top) in
+        let size : length (lookupPart s m) ≡ rows * rowSize m top = part-length s m g ∙ rw (g .finds .found .degree-is, r, t) in
         let l : lawfulTop top ≡ true = sym (ap lawfulTop t) ∙ top-lawful s m g in
-        let h = hands-out-rows m top rows (lookupPart s m) (g .lawful-degree) l size rows 0 n (zero-add rows) in
+        let h = hands-out-rows m top rows (lookupPart s m) (g .finds .lawful-degree) l size rows 0 n (zero-add rows) in
         ap (λ (k : ℕ). handsOut (rows + n) m k (lookupPart s m) 0) (g .top-is ∙ t) ∙ ap (handsOut (rows + n) m top (lookupPart s m)) (sym z) ∙ h
     go (inr f) = let z : _≡_ {A = ℕ} 0 1 = cc (f .numbers-are) in absurd (omega arith)
 

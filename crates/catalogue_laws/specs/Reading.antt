@@ -10,10 +10,10 @@ use lib.Dec.{leb}
 use lib.ListN.{length}
 use borrow.Author.Tests.{leb-true, eqb-true, lt-leb, le-leb, eq-eqb, ne-eqb}
 use Rattle.definitions.specs.Generator.{lawfulDegree}
-use Rattle.definitions.specs.Ranking.{lawfulTop}
-use Rattle.definitions.specs.Catalogue.{rowSize, atRow, rowAt, nextRow, nextPlace, byteAt, tAt}
+use Rattle.definitions.specs.Ranking.{leastTop, lawfulTop}
+use Rattle.definitions.specs.Catalogue.{numbersSize, rowSize, atRow, rowAt, nextRow, nextPlace, byteAt, tAt}
 use Rattle.definitions.specs.declared.NextRow.the-variants.{Found, End}
-use Rattle.catalogue_laws.specs.Form.{degree-bounds, top-bounds}
+use Rattle.number_laws.specs.Bounds.{LawfulDegree, LawfulTop, lawfulDegree-is, lawfulTop-is}
 
 -- What is left behind a place holds w bytes.
 leb-sub : (w n place : ℕ) → place ≤ n → leb w (n - place) ≡ leb (place + w) n
@@ -34,26 +34,25 @@ module _ (m top : ℕ) (body : List ℕ) (place : ℕ) where
     at-row-top t = rw (d, t)
 
     module _ (t : lawfulTop top ≡ true) where
-      pub at-row-start : (place % rowSize top ≡ 0 → ⊥) → atRow m top body place ≡ false
+      pub at-row-start : (place % rowSize m top ≡ 0 → ⊥) → atRow m top body place ≡ false
       unfolding atRow
-      at-row-start n = rw (d, t, ne-eqb (place % rowSize top) 0 n)
+      at-row-start n = rw (d, t, ne-eqb (place % rowSize m top) 0 n)
 
-      module _ (n : place % rowSize top ≡ 0) where
+      module _ (n : place % rowSize m top ≡ 0) where
         pub at-row-behind : length body < place → atRow m top body place ≡ false
         unfolding atRow
-        at-row-behind l = rw (d, t, eq-eqb (place % rowSize top) 0 n, lt-leb (place + rowSize top) (length body) (omega arith))
+        at-row-behind l = rw (d, t, eq-eqb (place % rowSize m top) 0 n, lt-leb (place + rowSize m top) (length body) (omega arith))
 
-        pub at-row-whole : place ≤ length body → atRow m top body place ≡ leb (rowSize top) (length body - place)
+        pub at-row-whole : place ≤ length body → atRow m top body place ≡ leb (rowSize m top) (length body - place)
         unfolding atRow
-        at-row-whole l = rw (d, t, eq-eqb (place % rowSize top) 0 n) (sym (leb-sub (rowSize top) (length body) place l))
+        at-row-whole l = rw (d, t, eq-eqb (place % rowSize m top) 0 n) (sym (leb-sub (rowSize m top) (length body) place l))
 
   -- What the start of a whole row says.
   pub record AtRow : Type 0 where
-    pub degree-most : m ≤ 16
-    pub top-least : 3 ≤ top
-    pub top-most : top ≤ 8
-    pub start : place % rowSize top ≡ 0
-    pub whole : place + rowSize top ≤ length body
+    pub lawful-degree : LawfulDegree m
+    pub lawful-top : LawfulTop top
+    pub start : place % rowSize m top ≡ 0
+    pub whole : place + rowSize m top ≤ length body
 
   pub at-row-out : atRow m top body place ≡ true → AtRow
   unfolding atRow
@@ -62,9 +61,8 @@ module _ (m top : ℕ) (body : List ℕ) (place : ℕ) where
       let b = and-eq-true-iff _ _ .0 (a .1) in
       let c = and-eq-true-iff _ _ .0 (b .1) in
       record {
-        degree-most = degree-bounds m (a .0) .1;
-        top-least = top-bounds top (b .0) .0;
-        top-most = top-bounds top (b .0) .1;
+        lawful-degree = lawfulDegree-is m .0 (a .0);
+        lawful-top = lawfulTop-is top .0 (b .0);
         start = eqb-true _ _ (c .0);
         whole = leb-true _ _ (c .1);
       }
@@ -81,12 +79,13 @@ module _ (m top : ℕ) (body : List ℕ) (place : ℕ) where
   unfolding nextPlace
   next-place-end e = rw e
 
-  pub next-place-row : atRow m top body place ≡ true → nextPlace m top body place ≡ place + rowSize top
+  pub next-place-row : atRow m top body place ≡ true → nextPlace m top body place ≡ place + rowSize m top
   unfolding nextPlace
   next-place-row e = rw e
 
-pub t-above : (top : ℕ) (body : List ℕ) (place s : ℕ) → top < s → tAt top body place s ≡ 0
-t-above top body place s l = rw (lt-leb s top l)
+module _ (m top : ℕ) (body : List ℕ) (place s : ℕ) where
+  pub t-above : top < s → tAt m top body place s ≡ 0
+  t-above l = rw (lt-leb s top l)
 
-pub t-within : (top : ℕ) (body : List ℕ) (place s : ℕ) → s ≤ top → tAt top body place s ≡ byteAt body (place + 3 + s)
-t-within top body place s l = rw (le-leb s top l)
+  pub t-within : s ≤ top → tAt m top body place s ≡ byteAt body (place + numbersSize m + (s - leastTop))
+  t-within l = rw (le-leb s top l)

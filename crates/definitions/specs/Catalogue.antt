@@ -18,11 +18,11 @@ numberAt (suc w) s i = numberAt w s i * 256 + byteAt s (i + w)
 -- ---- sizes, in bytes
 
 -- p without its leading term, q or σ in a row of a degree.
-abbrev pub numberSize : ℕ → ℕ
+unfoldable pub numberSize : ℕ → ℕ
 numberSize m = 2
 
 -- The row count in an entry of a degree.
-abbrev pub countSize : ℕ → ℕ
+unfoldable pub countSize : ℕ → ℕ
 countSize m = 2
 
 -- The offset in an entry.
@@ -30,12 +30,16 @@ abbrev pub offsetSize : ℕ
 offsetSize = 4
 
 -- An entry of a degree: the degree and T in one byte each, the row count, the offset.
-abbrev pub entrySize : ℕ → ℕ
+unfoldable pub entrySize : ℕ → ℕ
 entrySize m = 2 + countSize m + offsetSize
 
--- A row: p without its leading term, q, σ, then t(3) .. t(T) in one byte each.
-abbrev pub rowSize : ℕ → ℕ → ℕ
-rowSize m top = 3 * numberSize m + (suc top - leastTop)
+-- p without its leading term, q and σ together: t(3) lies behind them in a row.
+abbrev pub numbersSize : ℕ → ℕ
+numbersSize m = 3 * numberSize m
+
+-- A row: these three, then t(3) .. t(T) in one byte each.
+unfoldable pub rowSize : ℕ → ℕ → ℕ
+rowSize m top = numbersSize m + (suc top - leastTop)
 
 -- ---- the form
 
@@ -79,7 +83,7 @@ bodySize e = e .rows * rowSize (e .degree) (e .top)
 unfoldable pub rowForm : ℕ → ℕ → List ℕ → ℕ → Bool
 rowForm m top s at =
     let w : ℕ = numberSize m in
-    every 3 (λ (k : ℕ). ltb (numberAt w s (at + k * w)) (2 ^ m)) && every (suc top - leastTop) (λ (k : ℕ). leb (byteAt s (at + 3 * w + k)) m)
+    every 3 (λ (k : ℕ). ltb (numberAt w s (at + k * w)) (2 ^ m)) && every (suc top - leastTop) (λ (k : ℕ). leb (byteAt s (at + numbersSize m + k)) m)
 
 -- The entry's degree and T are lawful, its degree is above the last one, its body lies at `at` within the file, and each row is of the form.
 unfoldable pub entryForm : List ℕ → Entry → ℕ → ℕ → Bool
@@ -146,7 +150,7 @@ atRow m top body place =
 
 -- t(s) of the row at a place; 0 above the top dimension.
 abbrev pub tAt : ℕ → ℕ → List ℕ → ℕ → ℕ → ℕ
-tAt m top body place s = cond (leb s top) (byteAt body (place + 3 * numberSize m + (s - leastTop))) 0
+tAt m top body place s = cond (leb s top) (byteAt body (place + numbersSize m + (s - leastTop))) 0
 
 unfoldable pub rowAt : ℕ → ℕ → List ℕ → ℕ → Row
 rowAt m top body place =

@@ -1,0 +1,73 @@
+-- Sizes in a catalogue's bytes, as facts for every degree: what a number, a row count, an entry and a row take at least and at most, and that
+-- a number of a degree fits its bytes. What else is said of catalogues cites these, so that other sizes change this page alone.
+-- Assumes nothing.
+use mathlib.Core.Path.{_≡_, refl}
+use Prim.Native.Nat.{ℕ, zero, suc, _+_, _-_, _*_, _^_, _<_, _≤_}
+use native.Mathlib.Nat.{mul-le-mul-left, mul-le-mul-right, suc-mul}
+use native.Mathlib.Omega.{arith}
+use lib.Pow.{pow-mono}
+use Rattle.definitions.specs.Ranking.{leastTop, largestTop}
+use Rattle.definitions.specs.Catalogue.{numberSize, countSize, offsetSize, entrySize, numbersSize, rowSize}
+use Rattle.number_laws.specs.Bounds.{LawfulDegree}
+
+-- The most bytes of a number that is read into a machine word of 32 digits.
+abbrev pub widest : ℕ
+widest = 4
+
+module _ (m : ℕ) where
+  pub number-size-least : 1 ≤ numberSize m
+  unfolding numberSize
+  number-size-least = omega arith
+
+  pub number-size-most : numberSize m ≤ widest
+  unfolding numberSize
+  number-size-most = omega arith
+
+  -- p without its leading term, q and σ are below 2^m.
+  pub number-fits : LawfulDegree m → 2 ^ m ≤ 256 ^ numberSize m
+  unfolding numberSize
+  number-fits h = pow-mono {i = m} {j = 16} (h .high)
+
+  pub count-size-most : countSize m ≤ widest
+  unfolding countSize
+  count-size-most = omega arith
+
+  pub entry-size-is : entrySize m ≡ 2 + countSize m + offsetSize
+  unfolding entrySize
+  entry-size-is = refl
+
+  pub entry-size-least : 2 ≤ entrySize m
+  unfolding entrySize
+  entry-size-least = omega arith
+
+  pub entry-size-most : entrySize m ≤ 10
+  unfolding entrySize
+  entry-size-most = omega (arith, count-size-most)
+
+  module _ (top : ℕ) where
+    pub row-size-is : rowSize m top ≡ numbersSize m + (suc top - leastTop)
+    unfolding rowSize
+    row-size-is = refl
+
+    pub row-size-least : 1 ≤ rowSize m top
+    unfolding rowSize
+    row-size-least = omega (arith, number-size-least)
+
+    pub row-size-most : top ≤ largestTop → rowSize m top ≤ 18
+    unfolding rowSize
+    row-size-most h = omega (arith, number-size-most)
+
+    -- A body whose rows are counted in a machine word of 32 digits has its size in one of 64.
+    pub body-size-fits : top ≤ largestTop → (rows : ℕ) → rows < 2 ^ 32 → rows * rowSize m top < 2 ^ 64
+    body-size-fits h rows k =
+        let size = row-size-most h in
+        let most : rows * rowSize m top ≤ rows * 18 = mul-le-mul-left rows size in
+        omega arith
+
+-- One row less, and at most as many.
+pub size-less : (n w : ℕ) → 0 < n → n * w ≡ (n - 1) * w + w
+size-less zero w l = absurd (omega arith)
+size-less (suc n) w l = let d : suc n - 1 ≡ n = omega arith in rw d (suc-mul n w)
+
+pub size-most : (n k w : ℕ) → n ≤ k → n * w ≤ k * w
+size-most n k w l = mul-le-mul-right w l
