@@ -1,4 +1,3 @@
--- What the functions that C calls return and leave behind. Assumes nothing.
-pub mod Boundary
+-- What the functions that C calls are asked and answer. Assumes nothing.
+pub mod Requests
 pub mod Located
-pub mod Rows

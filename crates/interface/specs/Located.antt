@@ -1,50 +1,65 @@
 -- Where a degree's body lies in a catalogue, for C, which gets no part of a slice but a place and numbers.
--- The place and the numbers of one lookup cut the very part that a lookup gives, by where the entry is. Assumes nothing.
-use mathlib.Core.Path.{_≡_, refl, _∙_}
+-- They are read off the entry; they are those of a lookup, and cut the very part that a lookup gives. Assumes nothing.
+use mathlib.Core.Path.{_≡_, refl, sym, ap, _∙_}
 use mathlib.Core.List.{List}
 use Prim.Native.Nat.{ℕ, _+_, _*_, _≤_}
 use native.Mathlib.Omega.{arith}
-use lib.ListN.{length, take, drop, getD}
+use lib.ListN.{length, take, drop}
 use Rattle.definitions.specs.Answers.{unless, lookupValues}
-use Rattle.definitions.specs.Catalogue.{entryAt, entryOf, looking, lookupNumbers, lookupPart, rowSize}
-use Rattle.definitions.specs.declared.Refusal.{Refusal}
-use Rattle.definitions.specs.declared.Lookup.the-variants.{Body}
+use Rattle.definitions.specs.Catalogue.{Entry, entryAt, entryOf, looking, lookupNumbers, lookupPart, rowSize, bodySize}
 use Rattle.catalogue_laws.specs.Lookup.{unless-map}
 use Rattle.catalogue.specs.declared.seek.Sought.{Sought}
 use Rattle.catalogue.specs.declared.seek.Sought.the-variants.{At, Missing}
 use Rattle.catalogue.specs.Seek.{seeking, numbersOf, partOf, lookup-numbers, lookup-part, seek-located}
+use Rattle.results.specs.Results.{value, bodyResult, noBody}
+use Rattle.results.specs.declared.catalogues.FenyurkaBody.{FenyurkaBody}
 
--- The place of the degree's body in the file; where the lookup is refused, the number that was there.
-unfoldable pub bodyOffset : List ℕ → ℕ → ℕ → ℕ
+-- The body of an entry: T, rows, the size of a row, its place in the file and its length.
+abbrev pub bodyOf : Entry → FenyurkaBody
+bodyOf e = bodyResult (e .top) (e .rows) (rowSize (e .top)) (e .offset) (bodySize e)
+
+-- The body of the degree's entry, or the lookup's refusal.
+unfoldable pub located : List ℕ → ℕ → FenyurkaBody
 unfolding unless looking entryAt entryOf
-bodyOffset s m old = unless (looking s m) (λ (n : Refusal). old) (entryAt s (entryOf s m) .offset)
+located s m = unless (looking s m) noBody (bodyOf (entryAt s (entryOf s m)))
 
-abbrev pub offsetOf : List ℕ → ℕ → Sought → ℕ
-offsetOf s old (At i) = entryAt s i .offset
-offsetOf s old (Missing r) = old
+abbrev pub locatedAt : List ℕ → Sought → FenyurkaBody
+locatedAt s (At i) = bodyOf (entryAt s i)
+locatedAt s (Missing r) = noBody r
 
-pub body-offset : (s : List ℕ) (m old : ℕ) → offsetOf s old (seeking s m) ≡ bodyOffset s m old
-unfolding seeking bodyOffset
-body-offset s m old = unless-map (offsetOf s old) (looking s m) Missing (At (entryOf s m))
+pub located-sought : (s : List ℕ) (m : ℕ) → locatedAt s (seeking s m) ≡ located s m
+unfolding seeking located
+located-sought s m = unless-map (locatedAt s) (looking s m) Missing (At (entryOf s m))
 
--- What is known where a seek has ended at k: the values of the lookup, and the place.
-module _ (s : List ℕ) (m : ℕ) (k : Sought) (e : k ≡ seeking s m) where
-  pub located-values : (i old : ℕ) → getD (lookupValues (numbersOf s k)) i old ≡ getD (lookupValues (lookupNumbers s m)) i old
-  located-values i old = rw (e, lookup-numbers s m)
+-- Where a seek has ended at k.
+pub located-from : (s : List ℕ) (m : ℕ) {given told : Sought} → given ≡ told → given ≡ seeking s m → locatedAt s told ≡ located s m
+located-from s m e d = ap (locatedAt s) (sym e ∙ d) ∙ located-sought s m
 
-  pub located-offset : (old : ℕ) → offsetOf s old k ≡ bodyOffset s m old
-  located-offset old = rw e (body-offset s m old)
+-- ---- what the struct tells
 
--- The body that C cuts out lies within the file, and is the lookup's part.
-pub body-within : (s : List ℕ) (m old top rows : ℕ) → lookupNumbers s m ≡ Body top rows
-    → (bodyOffset s m old + rows * rowSize top ≤ length s) × (lookupPart s m ≡ take (rows * rowSize top) (drop (bodyOffset s m old) s))
-body-within s m old top rows e =
-    rw (← body-offset s m old, ← lookup-part s m) (go (seeking s m) refl (lookup-numbers s m ∙ e))
-  where
-    go : (k : Sought) → seeking s m ≡ k → numbersOf s k ≡ Body top rows
-        → (offsetOf s old k + rows * rowSize top ≤ length s) × (partOf s k ≡ take (rows * rowSize top) (drop (offsetOf s old k) s))
-    go (At i) at e =
-        let t : entryAt s i .top ≡ top = cc in
-        let r : entryAt s i .rows ≡ rows = cc in
-        rw (← t, ← r) (seek-located s m i at .lawful .within, refl)
-    go (Missing n) at e = let z : _≡_ {A = ℕ} 0 1 = cc in absurd (omega arith)
+-- The refusal, T and the row count are those of a lookup.
+pub record SameLookup (values : List ℕ) (b : FenyurkaBody) : Type 0 where
+  pub refusal : b .refusal ≡ value values 0
+  pub top : b .top ≡ value values 1
+  pub rows : b .rows ≡ value values 2
+
+-- The part of the file that C cuts out lies within it, is the part that a lookup gives, and has room for the rows.
+pub record Cut (s part : List ℕ) (b : FenyurkaBody) : Type 0 where
+  pub within : b .offset + b .length ≤ length s
+  pub same : part ≡ take (b .length) (drop (b .offset) s)
+  pub whole : b .length ≡ b .rows * b .«row_size»
+
+module _ (s : List ℕ) (m : ℕ) where
+  pub located-values : SameLookup (lookupValues (lookupNumbers s m)) (located s m)
+  located-values = rw (← located-sought s m, ← lookup-numbers s m) (go (seeking s m))
+    where
+      go : (k : Sought) → SameLookup (lookupValues (numbersOf s k)) (locatedAt s k)
+      go (At i) = record { refusal = refl; top = refl; rows = refl }
+      go (Missing r) = record { refusal = refl; top = refl; rows = refl }
+
+  pub located-cut : Cut s (lookupPart s m) (located s m)
+  located-cut = rw (← located-sought s m, ← lookup-part s m) (go (seeking s m) refl)
+    where
+      go : (k : Sought) → seeking s m ≡ k → Cut s (partOf s k) (locatedAt s k)
+      go (At i) at = record { within = seek-located s m i at .lawful .within; same = refl; whole = refl }
+      go (Missing r) at = record { within = omega arith; same = refl; whole = refl }

@@ -1,114 +1,83 @@
-// The public calls for C, as include/fenyurka.h declares them: a refusal's number is returned, 0 where there is none, and answers go
-// through pointers. A refusal writes nothing.
+// The public calls for C, as include/fenyurka.h declares them: structs go in and out by value, and only slices are behind pointers.
+// A result holds the refusal's number, 0 where there is none, and the values, 0 where there are none. A refusal writes into no slice.
 ghost use mathlib.Core.Path.{_≡_};
-ghost use Rattle.definitions.specs.Answers.{judgementValues, uniformityValues, pageValues, pointsValues, openingValues, lookupValues};
+ghost use Prim.Native.Nat.{_+_, _≤_};
+ghost use lib.ListN.{length};
+ghost use Rattle.definitions.specs.Answers.{judgementValues, uniformityValues, pageValues, pointsValues, openingValues};
 ghost use Rattle.definitions.specs.Calls.{judgement, uniformity, pageAnswer, pageSlice, pointsAnswer, pointsSlice};
-ghost use Rattle.definitions.specs.Catalogue.{opening, lookupNumbers, nextRow, nextPlace};
-ghost use Rattle.interface.specs.Boundary.{returned, stored, fromStart, afterPair};
-ghost use Rattle.interface.specs.Located.{bodyOffset};
-ghost use Rattle.interface.specs.Rows.{rowStatus, rowSlice, rowNext};
+ghost use Rattle.definitions.specs.Catalogue.{contentsSize, entryAt, opening, nextRow, nextPlace};
+ghost use Rattle.results.specs.Results.{judgementResult, tValueResult, pageResult, pointsResult, catalogueResult, rowResult};
+ghost use Rattle.interface.specs.Requests.{pageRequest};
+ghost use Rattle.interface.specs.Located.{bodyOf, located};
 use catalogue::form;
 use catalogue::seek;
 use catalogue::seek::Sought;
-use definitions::Judgement;
-use definitions::NextRow;
-use definitions::Opening;
 use definitions::PageRequest;
-use definitions::PointsAnswer;
 use definitions::Position;
-use definitions::Refusal;
-use definitions::Uniformity;
+use results::FenyurkaJudgement;
+use results::FenyurkaPage;
+use results::FenyurkaPoints;
+use results::FenyurkaTValue;
+use results::catalogues;
+use results::catalogues::FenyurkaBody;
+use results::catalogues::FenyurkaCatalogue;
+use results::catalogues::FenyurkaRow;
 
-pub mod pages; // a page from any position
-pub mod numbers; // a row's numbers over the front of a slice
+// Which ranked list is meant: the degree and the top dimension.
+#[repr(C)]
+pub struct FenyurkaList {
+    pub degree: u32,
+    pub top: u32,
+}
 
-// What reading a row returns at the end of a body.
-const AT_END: u32 = 1;
+// The request for a page of a list from a position.
+pub fn page_request(list: FenyurkaList, position: Position) -> PageRequest
+    ensures { λ r. ⌜ r ≡ pageRequest list position ⌝ }
+{
+    PageRequest {
+        degree: list.degree,
+        top: list.top,
+        position,
+    }
+}
 
 // The step of a pair.
 #[no_mangle]
-pub extern "C" fn fenyurka_judge(degree: u32, p: u32, q: u32, step: &mut u32) -> u32
-    ensures { λ r. ⌜ r ≡ returned (judgementValues (judgement degree p q)) ⌝ }
-    ensures { λ r. ⌜ now (step .exit) ≡ stored (judgementValues (judgement degree p q)) 1 (now (step .entry)) ⌝ }
+pub extern "C" fn fenyurka_judge(degree: u32, p: u32, q: u32) -> FenyurkaJudgement
+    ensures { λ r. ⌜ r ≡ judgementResult (judgementValues (judgement degree p q)) ⌝ }
 {
-    match generator::judge(degree, p, q) {
-        Judgement::Accepted(found) => {
-            *step = found;
-            0
-        }
-        Judgement::Rejected(refusal) => answers::refusal_number(refusal),
-    }
+    results::judgement(generator::judge(degree, p, q))
 }
 
 // The t-value of a pair in one dimension.
 #[no_mangle]
-pub extern "C" fn fenyurka_t_value(degree: u32, p: u32, q: u32, dimension: u32, t: &mut u32) -> u32
-    ensures { λ r. ⌜ r ≡ returned (uniformityValues (uniformity degree p q dimension)) ⌝ }
-    ensures { λ r. ⌜ now (t .exit) ≡ stored (uniformityValues (uniformity degree p q dimension)) 1 (now (t .entry)) ⌝ }
+pub extern "C" fn fenyurka_t_value(degree: u32, p: u32, q: u32, dimension: u32) -> FenyurkaTValue
+    ensures { λ r. ⌜ r ≡ tValueResult (uniformityValues (uniformity degree p q dimension)) ⌝ }
 {
-    match net::t_value(degree, p, q, dimension) {
-        Uniformity::Value(found) => {
-            *t = found;
-            0
-        }
-        Uniformity::Undefined(refusal) => answers::refusal_number(refusal),
-    }
+    results::t_value(net::t_value(degree, p, q, dimension))
 }
 
-// The first rows of the ranked list: how many, and whether a further row exists.
+// The first rows of a ranked list: how many, and whether a further row exists.
 #[no_mangle]
-pub extern "C" fn fenyurka_first_page(
-    degree: u32,
-    top: u32,
-    rows: &mut [u32],
-    count: &mut usize,
-    more: &mut u32,
-) -> u32
-    ensures { λ r. ⌜ r ≡ returned (pageValues (pageAnswer (fromStart degree top) (now (rows .entry)))) ⌝ }
-    ensures { λ r. ⌜ now (rows .exit) ≡ pageSlice (fromStart degree top) (now (rows .entry)) ⌝ }
-    ensures { λ r. ⌜ now (count .exit) ≡ stored (pageValues (pageAnswer (fromStart degree top) (now (rows .entry)))) 1 (now (count .entry)) ⌝ }
-    ensures { λ r. ⌜ now (more .exit) ≡ stored (pageValues (pageAnswer (fromStart degree top) (now (rows .entry)))) 2 (now (more .entry)) ⌝ }
+pub extern "C" fn fenyurka_first_page(list: FenyurkaList, rows: &mut [u32]) -> FenyurkaPage
+    ensures { λ r. ⌜ r ≡ pageResult (pageValues (pageAnswer (pageRequest list Position.Start) (now (rows .entry)))) ⌝ }
+    ensures { λ r. ⌜ now (rows .exit) ≡ pageSlice (pageRequest list Position.Start) (now (rows .entry)) ⌝ }
 {
-    let position = Position::Start;
-    pages::page(
-        PageRequest {
-            degree,
-            top,
-            position,
-        },
-        rows,
-        count,
-        more,
-    )
+    results::page(ranking::page(page_request(list, Position::Start), rows))
 }
 
 // The same for the rows after a pair.
 #[no_mangle]
 pub extern "C" fn fenyurka_page_after(
-    degree: u32,
-    top: u32,
+    list: FenyurkaList,
     p: u32,
     q: u32,
     rows: &mut [u32],
-    count: &mut usize,
-    more: &mut u32,
-) -> u32
-    ensures { λ r. ⌜ r ≡ returned (pageValues (pageAnswer (afterPair degree top p q) (now (rows .entry)))) ⌝ }
-    ensures { λ r. ⌜ now (rows .exit) ≡ pageSlice (afterPair degree top p q) (now (rows .entry)) ⌝ }
-    ensures { λ r. ⌜ now (count .exit) ≡ stored (pageValues (pageAnswer (afterPair degree top p q) (now (rows .entry)))) 1 (now (count .entry)) ⌝ }
-    ensures { λ r. ⌜ now (more .exit) ≡ stored (pageValues (pageAnswer (afterPair degree top p q) (now (rows .entry)))) 2 (now (more .entry)) ⌝ }
+) -> FenyurkaPage
+    ensures { λ r. ⌜ r ≡ pageResult (pageValues (pageAnswer (pageRequest list (Position.After p q)) (now (rows .entry)))) ⌝ }
+    ensures { λ r. ⌜ now (rows .exit) ≡ pageSlice (pageRequest list (Position.After p q)) (now (rows .entry)) ⌝ }
 {
-    let position = Position::After(p, q);
-    pages::page(
-        PageRequest {
-            degree,
-            top,
-            position,
-        },
-        rows,
-        count,
-        more,
-    )
+    results::page(ranking::page(page_request(list, Position::After(p, q)), rows))
 }
 
 // Words of a pair's period, and how many were written.
@@ -119,85 +88,51 @@ pub extern "C" fn fenyurka_points(
     q: u32,
     first: u32,
     words: &mut [u32],
-    count: &mut usize,
-) -> u32
-    ensures { λ r. ⌜ r ≡ returned (pointsValues (pointsAnswer degree p q first (now (words .entry)))) ⌝ }
+) -> FenyurkaPoints
+    ensures { λ r. ⌜ r ≡ pointsResult (pointsValues (pointsAnswer degree p q first (now (words .entry)))) ⌝ }
     ensures { λ r. ⌜ now (words .exit) ≡ pointsSlice degree p q first (now (words .entry)) ⌝ }
-    ensures { λ r. ⌜ now (count .exit) ≡ stored (pointsValues (pointsAnswer degree p q first (now (words .entry)))) 1 (now (count .entry)) ⌝ }
 {
-    match points::points(degree, p, q, first, words) {
-        PointsAnswer::Written(found) => {
-            *count = found;
-            0
-        }
-        PointsAnswer::NotWritten(refusal) => answers::refusal_number(refusal),
-    }
+    results::points(points::points(degree, p, q, first, words))
 }
 
 // How many degrees a catalogue has.
 #[no_mangle]
-pub extern "C" fn fenyurka_open(file: &[u8], entries: &mut u32) -> u32
-    ensures { λ r. ⌜ r ≡ returned (openingValues (opening (now (file .entry)))) ⌝ }
-    ensures { λ r. ⌜ now (entries .exit) ≡ stored (openingValues (opening (now (file .entry)))) 1 (now (entries .entry)) ⌝ }
+pub extern "C" fn fenyurka_open(file: &[u8]) -> FenyurkaCatalogue
+    ensures { λ r. ⌜ r ≡ catalogueResult (openingValues (opening (now (file .entry)))) ⌝ }
 {
-    match catalogue::open(file) {
-        Opening::Entries(found) => {
-            *entries = found;
-            0
-        }
-        Opening::Closed(refusal) => answers::refusal_number(refusal),
-    }
+    catalogues::catalogue(catalogue::open(file))
 }
 
-// The top dimension and the row count of a degree's body, and its place in the file.
+// The body of entry i.
+pub fn entry_body(file: &[u8], i: usize) -> FenyurkaBody
+    requires { ⌜ contentsSize (i + 1) ≤ length (now file) ⌝ }
+    ensures { λ r. ⌜ r ≡ bodyOf (entryAt (now (file .entry)) i) ⌝ }
+{
+    let top = form::entry_top(file, i);
+    let rows = form::entry_rows(file, i);
+    let offset = form::entry_offset(file, i) as usize;
+    let length = form::body_size(file, i);
+    catalogues::body(top, rows, top + 4, offset, length)
+}
+
+// A degree's body: its top dimension and row count, where it lies in the file, and how many bytes it and a row of it have.
 #[no_mangle]
-pub extern "C" fn fenyurka_lookup(
-    file: &[u8],
-    degree: u32,
-    top: &mut u32,
-    rows: &mut u32,
-    offset: &mut usize,
-) -> u32
-    ensures { λ r. ⌜ r ≡ returned (lookupValues (lookupNumbers (now (file .entry)) degree)) ⌝ }
-    ensures { λ r. ⌜ now (top .exit) ≡ stored (lookupValues (lookupNumbers (now (file .entry)) degree)) 1 (now (top .entry)) ⌝ }
-    ensures { λ r. ⌜ now (rows .exit) ≡ stored (lookupValues (lookupNumbers (now (file .entry)) degree)) 2 (now (rows .entry)) ⌝ }
-    ensures { λ r. ⌜ now (offset .exit) ≡ bodyOffset (now (file .entry)) degree (now (offset .entry)) ⌝ }
+pub extern "C" fn fenyurka_lookup(file: &[u8], degree: u32) -> FenyurkaBody
+    ensures { λ r. ⌜ r ≡ located (now (file .entry)) degree ⌝ }
 {
     match seek::seek(file, degree) {
-        Sought::At(i) => {
-            *top = form::entry_top(file, i);
-            *rows = form::entry_rows(file, i);
-            *offset = form::entry_offset(file, i) as usize;
-            0
-        }
-        Sought::Missing(refusal) => answers::refusal_number(refusal),
+        Sought::At(i) => entry_body(file, i),
+        Sought::Missing(refusal) => catalogues::no_body(refusal),
     }
 }
 
-// The row at a place of a body and the place behind it, the end, or that the slice is too short.
+// The row at a place of a body and the place behind it, or the end.
 #[no_mangle]
-pub extern "C" fn fenyurka_row(
-    body: &[u8],
-    degree: u32,
-    top: u32,
-    place: usize,
-    row: &mut [u32],
-    next: &mut usize,
-) -> u32
-    ensures { λ r. ⌜ r ≡ rowStatus top (now (row .entry)) (nextRow degree top (now (body .entry)) place) ⌝ }
-    ensures { λ r. ⌜ now (row .exit) ≡ rowSlice top (now (row .entry)) (nextRow degree top (now (body .entry)) place) ⌝ }
-    ensures { λ r. ⌜ now (next .exit) ≡ rowNext top (now (row .entry)) (nextPlace degree top (now (body .entry)) place) (now (next .entry)) (nextRow degree top (now (body .entry)) place) ⌝ }
+pub extern "C" fn fenyurka_row(list: FenyurkaList, body: &[u8], place: usize) -> FenyurkaRow
+    ensures { λ r. ⌜ r ≡ rowResult (nextRow (list .degree) (list .top) (now (body .entry)) place) (list .top) (nextPlace (list .degree) (list .top) (now (body .entry)) place) ⌝ }
 {
-    match catalogue::row_at(body, degree, top, place) {
-        NextRow::Found(found) => {
-            let width = top as usize + 1;
-            if row.len() < width {
-                return answers::refusal_number(Refusal::ShortSlice);
-            }
-            numbers::write(found, width, row);
-            *next = catalogue::place_behind(body, degree, top, place);
-            0
-        }
-        NextRow::End => AT_END,
-    }
+    let degree = list.degree;
+    let top = list.top;
+    let next = catalogue::place_behind(body, degree, top, place);
+    catalogues::row(catalogue::row_at(body, degree, top, place), top, next)
 }

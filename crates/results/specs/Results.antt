@@ -1,0 +1,52 @@
+-- An answer as a struct for C: the refusal's number, 0 where there is none, and the answer's values in their order, 0 where it has none.
+-- Assumes nothing.
+use mathlib.Core.List.{List, [], _∷_}
+use Prim.Native.Nat.{ℕ, _+_}
+use lib.ListN.{getD}
+use Rattle.definitions.specs.Answers.{refusalNumber}
+use Rattle.definitions.specs.declared.Refusal.{Refusal}
+use Rattle.definitions.specs.declared.Row.{Row}
+use Rattle.definitions.specs.declared.NextRow.{NextRow}
+use Rattle.definitions.specs.declared.NextRow.the-variants.{Found, End}
+use Rattle.results.specs.declared.FenyurkaJudgement.{FenyurkaJudgement}
+use Rattle.results.specs.declared.FenyurkaTValue.{FenyurkaTValue}
+use Rattle.results.specs.declared.FenyurkaPage.{FenyurkaPage}
+use Rattle.results.specs.declared.FenyurkaPoints.{FenyurkaPoints}
+use Rattle.results.specs.declared.catalogues.FenyurkaCatalogue.{FenyurkaCatalogue}
+use Rattle.results.specs.declared.catalogues.FenyurkaBody.{FenyurkaBody}
+use Rattle.results.specs.declared.catalogues.FenyurkaRow.{FenyurkaRow}
+
+-- Value i of an answer's values, of which the first is the refusal's number; 0 where there is none.
+abbrev pub value : List ℕ → ℕ → ℕ
+value values i = getD values i 0
+
+abbrev pub judgementResult : List ℕ → FenyurkaJudgement
+judgementResult values = record { refusal = value values 0; step = value values 1 }
+
+abbrev pub tValueResult : List ℕ → FenyurkaTValue
+tValueResult values = record { refusal = value values 0; t = value values 1 }
+
+abbrev pub pageResult : List ℕ → FenyurkaPage
+pageResult values = record { refusal = value values 0; more = value values 2; count = value values 1 }
+
+abbrev pub pointsResult : List ℕ → FenyurkaPoints
+pointsResult values = record { refusal = value values 0; count = value values 1 }
+
+abbrev pub catalogueResult : List ℕ → FenyurkaCatalogue
+catalogueResult values = record { refusal = value values 0; entries = value values 1 }
+
+-- A body by its numbers: T, rows, the size of a row, its place in the file and its length.
+abbrev pub bodyResult : ℕ → ℕ → ℕ → ℕ → ℕ → FenyurkaBody
+bodyResult top rows size offset length = record { refusal = 0; top = top; rows = rows; «row_size» = size; offset = offset; length = length }
+
+abbrev pub noBody : Refusal → FenyurkaBody
+noBody r = record { refusal = refusalNumber r; top = 0; rows = 0; «row_size» = 0; offset = 0; length = 0 }
+
+-- p, q, σ, t(3) .. t(8).
+abbrev pub rowNumbers : Row → List ℕ
+rowNumbers r = r .p ∷ r .q ∷ r .step ∷ r .t3 ∷ r .t4 ∷ r .t5 ∷ r .t6 ∷ r .t7 ∷ r .t8 ∷ []
+
+-- The next row, of top dimension T, and the place behind it: T + 1 numbers count. At the end none does, and all are 0.
+abbrev pub rowResult : NextRow → ℕ → ℕ → FenyurkaRow
+rowResult (Found r) top next = record { count = top + 1; next = next; numbers = rowNumbers r }
+rowResult End top next = record { count = 0; next = next; numbers = 0 ∷ 0 ∷ 0 ∷ 0 ∷ 0 ∷ 0 ∷ 0 ∷ 0 ∷ 0 ∷ [] }

@@ -1,0 +1,104 @@
+// Answers about catalogues as structs: an opening, a degree's body, a row of one.
+use definitions::NextRow;
+use definitions::Opening;
+use definitions::Refusal;
+ghost use mathlib.Core.Path.{_≡_};
+ghost use Rattle.definitions.specs.Answers.{openingValues};
+ghost use Rattle.results.specs.Results.{catalogueResult, bodyResult, noBody, rowResult};
+
+// The most numbers that a row has.
+const LONGEST_ROW: usize = 9;
+
+// How many degrees a catalogue has.
+#[repr(C)]
+pub struct FenyurkaCatalogue {
+    pub refusal: u32,
+    pub entries: u32,
+}
+
+pub fn catalogue(answer: Opening) -> FenyurkaCatalogue
+    ensures { λ r. ⌜ r ≡ catalogueResult (openingValues answer) ⌝ }
+{
+    match answer {
+        Opening::Entries(entries) => FenyurkaCatalogue {
+            refusal: 0,
+            entries,
+        },
+        Opening::Closed(refusal) => FenyurkaCatalogue {
+            refusal: answers::refusal_number(refusal),
+            entries: 0,
+        },
+    }
+}
+
+// A degree's body: its top dimension, its row count and the size of a row, its place in the file and its length, in bytes.
+#[repr(C)]
+pub struct FenyurkaBody {
+    pub refusal: u32,
+    pub top: u32,
+    pub rows: u32,
+    pub row_size: u32,
+    pub offset: usize,
+    pub length: usize,
+}
+
+pub fn body(top: u32, rows: u32, row_size: u32, offset: usize, length: usize) -> FenyurkaBody
+    ensures { λ r. ⌜ r ≡ bodyResult top rows «row_size» offset length ⌝ }
+{
+    FenyurkaBody {
+        refusal: 0,
+        top,
+        rows,
+        row_size,
+        offset,
+        length,
+    }
+}
+
+pub fn no_body(refusal: Refusal) -> FenyurkaBody
+    ensures { λ r. ⌜ r ≡ noBody refusal ⌝ }
+{
+    FenyurkaBody {
+        refusal: answers::refusal_number(refusal),
+        top: 0,
+        rows: 0,
+        row_size: 0,
+        offset: 0,
+        length: 0,
+    }
+}
+
+// A row of a body: how many numbers it has, 0 at the end; the place behind it; its numbers, 0 above the top dimension.
+#[repr(C)]
+pub struct FenyurkaRow {
+    pub count: usize,
+    pub next: usize,
+    pub numbers: [u32; LONGEST_ROW],
+}
+
+pub fn row(answer: NextRow, top: u32, next: usize) -> FenyurkaRow
+    ensures { λ r. ⌜ r ≡ rowResult answer top next ⌝ }
+{
+    match answer {
+        NextRow::Found(found) => FenyurkaRow {
+            count: top as usize + 1,
+            next,
+            numbers: [
+                found.p,
+                found.q,
+                found.step,
+                found.t3,
+                found.t4,
+                found.t5,
+                found.t6,
+                found.t7,
+                found.t8,
+            ],
+        },
+        NextRow::End => FenyurkaRow {
+            count: 0,
+            next,
+            numbers: [0; LONGEST_ROW],
+        },
+    }
+}

@@ -1,0 +1,100 @@
+// An answer as a struct that C takes by value: the refusal's number, 0 where there is none, and the answer's values, 0 where it has none.
+use definitions::Judgement;
+use definitions::PageAnswer;
+use definitions::PointsAnswer;
+use definitions::Uniformity;
+ghost use mathlib.Core.Path.{_≡_};
+ghost use Rattle.definitions.specs.Number.{bit};
+ghost use Rattle.definitions.specs.Answers.{judgementValues, uniformityValues, pageValues, pointsValues};
+ghost use Rattle.results.specs.Results.{judgementResult, tValueResult, pageResult, pointsResult};
+
+pub mod catalogues; // answers about catalogues
+
+// A pair's step.
+#[repr(C)]
+pub struct FenyurkaJudgement {
+    pub refusal: u32,
+    pub step: u32,
+}
+
+pub fn judgement(answer: Judgement) -> FenyurkaJudgement
+    ensures { λ r. ⌜ r ≡ judgementResult (judgementValues answer) ⌝ }
+{
+    match answer {
+        Judgement::Accepted(step) => FenyurkaJudgement { refusal: 0, step },
+        Judgement::Rejected(refusal) => FenyurkaJudgement {
+            refusal: answers::refusal_number(refusal),
+            step: 0,
+        },
+    }
+}
+
+// A t-value.
+#[repr(C)]
+pub struct FenyurkaTValue {
+    pub refusal: u32,
+    pub t: u32,
+}
+
+pub fn t_value(answer: Uniformity) -> FenyurkaTValue
+    ensures { λ r. ⌜ r ≡ tValueResult (uniformityValues answer) ⌝ }
+{
+    match answer {
+        Uniformity::Value(t) => FenyurkaTValue { refusal: 0, t },
+        Uniformity::Undefined(refusal) => FenyurkaTValue {
+            refusal: answers::refusal_number(refusal),
+            t: 0,
+        },
+    }
+}
+
+// A page: whether a further row exists, and how many rows were written.
+#[repr(C)]
+pub struct FenyurkaPage {
+    pub refusal: u32,
+    pub more: u32,
+    pub count: usize,
+}
+
+// C's truth.
+pub fn truth(b: bool) -> u32
+    ensures { λ r. ⌜ r ≡ bit b ⌝ }
+{
+    if b { 1 } else { 0 }
+}
+
+pub fn page(answer: PageAnswer) -> FenyurkaPage
+    ensures { λ r. ⌜ r ≡ pageResult (pageValues answer) ⌝ }
+{
+    match answer {
+        PageAnswer::Page(count, further) => FenyurkaPage {
+            refusal: 0,
+            more: truth(further),
+            count,
+        },
+        PageAnswer::NoPage(refusal) => FenyurkaPage {
+            refusal: answers::refusal_number(refusal),
+            more: 0,
+            count: 0,
+        },
+    }
+}
+
+// How many words were written.
+#[repr(C)]
+pub struct FenyurkaPoints {
+    pub refusal: u32,
+    pub count: usize,
+}
+
+pub fn points(answer: PointsAnswer) -> FenyurkaPoints
+    ensures { λ r. ⌜ r ≡ pointsResult (pointsValues answer) ⌝ }
+{
+    match answer {
+        PointsAnswer::Written(count) => FenyurkaPoints { refusal: 0, count },
+        PointsAnswer::NotWritten(refusal) => FenyurkaPoints {
+            refusal: answers::refusal_number(refusal),
+            count: 0,
+        },
+    }
+}
