@@ -36,7 +36,7 @@ module _ (to w : ℕ) (s : List ℕ) where
   shifted-more k l h =
       let moved : suc (k + w) + length (slice (suc k) to s) ≤ length s = omega (arith, length-slice (suc k) to s (omega arith)) in
       rw (suc-add k w, getD-over (suc (k + w)) k 0 (slice (suc k) to s) s (omega arith) (omega arith), slice-cons k to s 0 l (omega arith))
-      (over-store (k + w) (getD s k 0) (slice (suc k) to s) s moved)
+      (over-store (k + w) (getD s k 0) (slice (suc k) to s) s (omega arith))
 
   pub shift-more : (j : ℕ) {out : List ℕ} → 0 < j → j ≤ to → to + w ≤ length s → out ≡ shifted j to w s
       → set out (j - 1 + w) (getD out (j - 1) 0) ≡ shifted (j - 1) to w s

@@ -8,7 +8,7 @@ use native.Mathlib.Numerals.{add-one}
 use native.Mathlib.Omega.{arith}
 use lib.ListN.{length, set}
 use Rattle.definitions.specs.Number.{over}
-use Rattle.slice_laws.specs.Over.{over-nothing, over-one, over-before}
+use Rattle.slice_laws.specs.Over.{over-nothing, over-one, over-store}
 use Rattle.line.specs.Numbers.{beforeOthers}
 
 -- How many numbers are wanted from place i on.
@@ -42,4 +42,4 @@ module _ (i : ℕ) (out : List ℕ) {l : List ℕ} where
       where
         go : (o : List ℕ) → l ≡ beforeOthers v o → Read (i + 1) out o n mid → Read i out l (n + 1) (set mid i v)
         go [] e r = absurd (z (r .0))
-        go (k ∷ o) e r = rw (e, r .1, r .0, add-one i) (omega arith, over-before i v (k ∷ o) out h)
+        go (k ∷ o) e r = rw (e, r .1, r .0, add-one i) (omega arith, over-store i v (k ∷ o) out h)

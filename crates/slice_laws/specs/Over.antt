@@ -104,19 +104,13 @@ over-last at a b out h =
     let end : at + length (a ++ b ∷ []) ≡ suc k = simp length-append (omega arith) in
     rw (kept, stored, end) (simp append-assoc)
 
--- A number is stored before the others.
-pub over-store : (at b : ℕ) (text out : List ℕ) → suc at + length text ≤ length out → set (over (suc at) text out) at b ≡ over at (b ∷ text) out
-over-store at b text out l =
-    let inside : at < length (over (suc at) text out) = omega (arith, length-over (suc at) text out l) in
-    rw (over-one at b (over (suc at) text out) inside, ← add-one at) (over-before at (b ∷ []) text out (omega arith))
-
 pub over-next : (at b : ℕ) (text out : List ℕ) → at < length out → over (suc at) text (set out at b) ≡ over at (b ∷ text) out
 over-next at b text out h =
     rw (over-one at b out h, ← add-one at) (over-append at (b ∷ []) text out (omega arith))
 
 -- The first number is stored behind the others.
-pub over-before : (at b : ℕ) (text out : List ℕ) → at < length out → set (over (suc at) text out) at b ≡ over at (b ∷ text) out
-over-before at b text out h =
+pub over-store : (at b : ℕ) (text out : List ℕ) → at < length out → set (over (suc at) text out) at b ≡ over at (b ∷ text) out
+over-store at b text out h =
     let behind = drop (suc at + length text) out in
     let front : at < length (take (suc at) out) = rw length-take (omega arith) in
     let stored : set (take (suc at) out ++ text ++ behind) at b ≡ set (take (suc at) out) at b ++ text ++ behind =
