@@ -6,10 +6,10 @@ ghost use Rattle.definitions.specs.Number.{over};
 ghost use Rattle.definitions.specs.Points.{state, words};
 ghost use Rattle.number_laws.specs.Bounds.{LawfulDegree};
 ghost use Rattle.fraction_laws.specs.WellFormed.{WellFormed};
-use crate::tables;
-use crate::word;
 use generator::degrees;
 use polynomial::residues;
+use word_tables::tables;
+use word_tables::word;
 
 // The smaller of two numbers.
 pub fn smaller(a: usize, b: usize) -> usize

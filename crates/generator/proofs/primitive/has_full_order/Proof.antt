@@ -67,7 +67,8 @@ one-found c =
 other-value : tie.Need-loop-again Inv-loop μ-loop
 other-value c =
     let at = c .before .before .before in
-    testing-other (turn at .loop .inv) (at .divisor .ensures) (c .before .before .if1 .left) (power-is (c .before)) (at .before .loop-test .taken) (c .if2 .left)
+    testing-other (turn at .loop .inv) (at .divisor .ensures) (c .before .before .if1 .left) (power-is (c .before))
+    (at .before .loop-test .taken) (c .if2 .left)
 
 all-tested : tie.Need-returns-3 Inv-loop μ-loop
 all-tested c =

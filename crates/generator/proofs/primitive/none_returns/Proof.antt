@@ -50,7 +50,8 @@ one-found c =
 other-value : tie.Need-loop-again Inv-loop μ-loop
 other-value c =
     let at = c .before .before .before in
-    testing-other (turn at .loop .inv) (at .divisor .ensures) (c .before .before .if1 .left) (power-is (c .before)) (at .before .loop-test .taken) (c .if2 .left)
+    testing-other (turn at .loop .inv) (at .divisor .ensures) (c .before .before .if1 .left) (power-is (c .before))
+    (at .before .loop-test .taken) (c .if2 .left)
 
 pub none-returns-spec : {M : Type 1} → statement M
 none-returns-spec =

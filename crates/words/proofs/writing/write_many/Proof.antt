@@ -5,8 +5,8 @@ use Prim.Native.Nat.{_-_, _*_, _<_, _^_}
 use native.Mathlib.Omega.{arith}
 use borrow.Author.Needs.{needs}
 use Rattle.number_laws.specs.Bounds.{lead-high}
-use Rattle.words.specs.Tables.{size}
-use Rattle.words.specs.Filling.{Filled, lower-unit, upper-unit, next-looked-up, next-small, word-looked-up}
+use Rattle.word_tables.specs.Tables.{size}
+use Rattle.word_tables.specs.Filling.{Filled, lower-unit, upper-unit, next-looked-up, next-small, word-looked-up}
 use Rattle.words.specs.Writing.{Writing, writing-start, writing-more, writing-done}
 use Rattle.words.proofs.writing.write_many.Statement.{statement}
 use Rattle.words.proofs.writing.write_many.Tie as tie

@@ -10,11 +10,12 @@ use lib.Pow.{pow-mono, pow-pos}
 use Rattle.definitions.specs.Polynomial.{prod, rem}
 use Rattle.definitions.specs.Points.{leading, wordDigits}
 use Rattle.number_laws.specs.Truth.{le-unless}
+use Rattle.polynomial_laws.specs.Additive.{Additive}
 use Rattle.polynomial_laws.specs.Degree.{HasDegree, positive, degree-unique}
 use Rattle.polynomial_laws.specs.Division.{rem-lt}
 use Rattle.polynomial_laws.specs.Leading.{residue-additive, leading-additive}
-use Rattle.words.specs.Spreading.{Spread}
-use Rattle.words.specs.Tables.{halfDigits, size, Tabled, tabled-start, tabled-beyond, tabled-double, looked-up}
+use Rattle.word_tables.specs.Spreading.{Spread}
+use Rattle.word_tables.specs.Tables.{halfDigits, size, Tabled, tabled-start, tabled-beyond, tabled-double, looked-up}
 
 -- The state after y.
 abbrev pub nextState : ℕ → ℕ → ℕ → ℕ
@@ -72,14 +73,20 @@ module _ {m p q unit n : ℕ} {next word : List ℕ} (at : Filling m p q unit n 
       rw e at (at .filled)
 
 module _ {m p : ℕ} (d : HasDegree p m) (q : ℕ) where
+  next-additive : Additive (nextState p q)
+  next-additive = residue-additive p (positive d) q
+
+  word-additive : Additive (leading p wordDigits)
+  word-additive = leading-additive p (positive d) wordDigits
+
   pub filling-start : (unit : ℕ) (next word : List ℕ) → length next ≡ size → length word ≡ size → Filling m p q unit 1 (set next 0 0) (set word 0 0)
   filling-start unit next word ln lw = record {
     exponent = 0;
     is = refl;
     most = omega arith;
     filled = record {
-      next-right = tabled-start (nextState p q) (residue-additive p (positive d) q) (2 ^ m) unit next ln;
-      word-right = tabled-start (leading p wordDigits) (leading-additive p (positive d) wordDigits) (2 ^ m) unit word lw;
+      next-right = tabled-start (nextState p q) next-additive (2 ^ m) unit next ln;
+      word-right = tabled-start (leading p wordDigits) word-additive (2 ^ m) unit word lw;
     };
   }
 
@@ -94,9 +101,8 @@ module _ {m p : ℕ} (d : HasDegree p m) (q : ℕ) where
           is = omega (arith, at .is, pow-suc 2 k);
           most = filling-less at l;
           filled = record {
-            next-right = tabled-double (nextState p q) (residue-additive p (positive d) q) (2 ^ m) k (u .exponent) (at .is) (u .is) ea (f .next-right) sa;
-            word-right =
-                tabled-double (leading p wordDigits) (leading-additive p (positive d) wordDigits) (2 ^ m) k (u .exponent) (at .is) (u .is) eb (f .word-right) sb;
+            next-right = tabled-double (nextState p q) next-additive (2 ^ m) k (u .exponent) (at .is) (u .is) ea (f .next-right) sa;
+            word-right = tabled-double (leading p wordDigits) word-additive (2 ^ m) k (u .exponent) (at .is) (u .is) eb (f .word-right) sb;
           };
         }
 
@@ -104,11 +110,10 @@ module _ {m p : ℕ} (d : HasDegree p m) (q : ℕ) where
   module _ {next-low word-low next-high word-high : List ℕ} (low : Filled m p q 1 size next-low word-low)
       (high : Filled m p q size size next-high word-high) (y : ℕ) (h : y < 2 ^ m) (k : y < size * size) where
     pub next-looked-up : bitXor (getD next-low (y % size) 0) (getD next-high (y / size) 0) ≡ nextState p q y
-    next-looked-up = looked-up (nextState p q) (residue-additive p (positive d) q) (2 ^ m) (low .next-right) (high .next-right) y h k
+    next-looked-up = looked-up (nextState p q) next-additive (2 ^ m) (low .next-right) (high .next-right) y h k
 
     pub next-small : bitXor (getD next-low (y % size) 0) (getD next-high (y / size) 0) < 2 ^ m
     next-small = rw next-looked-up (subst (λ (k : ℕ). nextState p q y < 2 ^ k) (degree-unique p m d) (rem-lt p (positive d) (prod q y)))
 
     pub word-looked-up : bitXor (getD word-low (y % size) 0) (getD word-high (y / size) 0) ≡ leading p wordDigits y
-    word-looked-up =
-        looked-up (leading p wordDigits) (leading-additive p (positive d) wordDigits) (2 ^ m) (low .word-right) (high .word-right) y h k
+    word-looked-up = looked-up (leading p wordDigits) word-additive (2 ^ m) (low .word-right) (high .word-right) y h k

@@ -1,4 +1,4 @@
--- `words::tables::fill` meets its contract. Invariant: n is a power of two, and the first n entries of both tables are right.
+-- `word_tables::tables::fill` meets its contract. Invariant: n is a power of two, and the first n entries of both tables are right.
 -- A unit multiple that is no residue ends it: none of the entries behind is asked for. Assumes nothing.
 use mathlib.Core.Path.{sym, _∙_}
 use Prim.Native.Nat.{_-_}
@@ -6,10 +6,10 @@ use native.Mathlib.Omega.{arith}
 use denote.Ref.{now}
 use borrow.Author.Needs.{needs}
 use Rattle.polynomial.specs.Modulus.{lawful-modulus}
-use Rattle.words.specs.Tables.{size}
-use Rattle.words.specs.Filling.{Filling, unit-small, filling-start, filling-more, filling-beyond, filling-done, filling-room, filling-positive}
-use Rattle.words.proofs.tables.fill.Statement.{statement}
-use Rattle.words.proofs.tables.fill.Tie as tie
+use Rattle.word_tables.specs.Tables.{size}
+use Rattle.word_tables.specs.Filling.{Filling, unit-small, filling-start, filling-more, filling-beyond, filling-done, filling-room, filling-positive}
+use Rattle.word_tables.proofs.tables.fill.Statement.{statement}
+use Rattle.word_tables.proofs.tables.fill.Tie as tie
 
 abbrev Inv-loop : tie.InvT-loop
 Inv-loop m p q unit next₀ word₀ lead n₀ next word n = Filling m p q unit n next word

@@ -1,4 +1,4 @@
--- `words::word::word_of` meets its contract. Invariant: after d digits the word holds them and the rest is what long division leaves.
+-- `word_tables::word::word_of` meets its contract. Invariant: after d digits the word holds them and the rest is what long division leaves.
 -- Assumes nothing.
 use Prim.Native.Nat.{_-_}
 use native.Mathlib.Omega.{arith}
@@ -6,9 +6,9 @@ use borrow.Author.Needs.{needs}
 use Rattle.definitions.specs.Points.{wordDigits}
 use Rattle.number_laws.specs.Bounds.{lead-high}
 use Rattle.polynomial.specs.Modulus.{lawful-modulus}
-use Rattle.words.specs.Word.{Divided, divided-start, divided-more, divided-end, next-fits, rest-lt}
-use Rattle.words.proofs.word.word_of.Statement.{statement}
-use Rattle.words.proofs.word.word_of.Tie as tie
+use Rattle.word_tables.specs.Word.{Divided, divided-start, divided-more, divided-end, next-fits, rest-lt}
+use Rattle.word_tables.proofs.word.word_of.Statement.{statement}
+use Rattle.word_tables.proofs.word.word_of.Tie as tie
 
 abbrev Inv-loop : tie.InvT-loop
 Inv-loop m p y lead word₀ rest₀ d₀ word rest d = Divided p y d word rest

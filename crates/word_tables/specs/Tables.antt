@@ -14,7 +14,7 @@ use Rattle.definitions.specs.Polynomial.{_⊕_}
 use Rattle.definitions.specs.Generator.{largestDegree}
 use Rattle.polynomial_laws.specs.Sum.{⊕-def, ⊕-comm}
 use Rattle.polynomial_laws.specs.Additive.{Additive, additive-zero}
-use Rattle.words.specs.Spreading.{Spread}
+use Rattle.word_tables.specs.Spreading.{Spread}
 
 -- Half of the digits that a state has at most,
 abbrev pub halfDigits : ℕ

@@ -1,10 +1,10 @@
--- `words::tables::spread` meets its contract. Invariant: the first i entries are copied, and the first n are as they were.
+-- `word_tables::tables::spread` meets its contract. Invariant: the first i entries are copied, and the first n are as they were.
 -- Assumes nothing.
 use Prim.Native.Nat.{_-_, _≤_}
 use native.Mathlib.Omega.{arith}
-use Rattle.words.specs.Spreading.{Spreading, spread-start, spread-more, spread-done}
-use Rattle.words.proofs.tables.spread.Statement.{statement}
-use Rattle.words.proofs.tables.spread.Tie as tie
+use Rattle.word_tables.specs.Spreading.{Spreading, spread-start, spread-more, spread-done}
+use Rattle.word_tables.proofs.tables.spread.Statement.{statement}
+use Rattle.word_tables.proofs.tables.spread.Tie as tie
 
 abbrev Inv-loop : tie.InvT-loop
 Inv-loop table₀ n value i₀ table i = Spreading n value i table₀ table × (i ≤ n)
