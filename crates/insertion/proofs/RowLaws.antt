@@ -34,7 +34,6 @@ module _ (to w : ℕ) (s : List ℕ) where
 
   shifted-more : (k : ℕ) → k < to → to + w ≤ length s → set (shifted (suc k) to w s) (k + w) (getD (shifted (suc k) to w s) k 0) ≡ shifted k to w s
   shifted-more k l h =
-      let moved : suc (k + w) + length (slice (suc k) to s) ≤ length s = omega (arith, length-slice (suc k) to s (omega arith)) in
       rw (suc-add k w, getD-over (suc (k + w)) k 0 (slice (suc k) to s) s (omega arith) (omega arith), slice-cons k to s 0 l (omega arith))
       (over-store (k + w) (getD s k 0) (slice (suc k) to s) s (omega arith))
 
