@@ -1,26 +1,25 @@
 -- The demands of the calls themselves: whatever result and slices a call's contract allows, demands 1 to 3 hold of them. `Post` is what the
--- toolchain makes of the source's `ensures`: a claim of the lifetimes, the arguments a, the result r and the arguments at exit e, where `a .0` is
--- the first argument, `a .1 .0` the second, and so on. Each contract says that the result is the definition's, so what is proved of that holds.
--- Assumes nothing.
-use mathlib.Core.Path.{_≡_, sym, ap, ap₂, _∙_, subst}
+-- toolchain makes of the source's `ensures`: a claim of the lifetimes, the arguments as a chain of pairs, the result r and the arguments at exit e.
+-- Each contract says that the result, and the slice at exit, are the definition's, so what is proved of that holds. Assumes nothing.
+use mathlib.Core.Path.{_≡_, sym, _∙_}
 use mathlib.Core.Logic.{_↔_}
-use mathlib.Core.Bool.{Bool, true, false, not}
-use mathlib.Core.List.{List, [], _∷_, _++_}
+use mathlib.Core.Bool.{Bool, true, false}
+use mathlib.Core.List.{List, [], _∷_}
 use Prim.Native.Nat.{ℕ, suc, _+_, _≤_}
-use lib.ListN.{length, drop}
+use lib.ListN.{length}
 use denote.Ref.{now}
 use base.Logic.{ent}
 use contract.Monad.{fact, fact-mono}
 use borrow.Fn.World.{World, ArgsD}
-use Rattle.definitions.specs.Number.{join}
-use Rattle.definitions.specs.Answers.{situation, judgementValues, uniformityValues, pageValues, pointsValues, openingValues, lookupValues}
+use Rattle.definitions.specs.Number.{join, over}
+use Rattle.definitions.specs.Answers.{judgementValues, uniformityValues, pageValues, pointsValues, openingValues, lookupValues}
 use Rattle.definitions.specs.Generator.{lawfulDegree, period}
 use Rattle.definitions.specs.Points.{words}
 use Rattle.definitions.specs.Ranking.{lawfulTop, rowWidth, ranked}
-use Rattle.definitions.specs.Calls.{judging, measuring, paging, pointing, pageAnswer, pageSlice, pointsSlice}
-use Rattle.definitions.specs.Catalogue.{catalogueForm, looking, lookupNumbers}
+use Rattle.definitions.specs.Calls.{judging, measuring, pageRequest, paging, pointing, pageAnswer, pageSlice}
+use Rattle.definitions.specs.Catalogue.{looking, lookupNumbers}
 use Rattle.definitions.specs.declared.Refusal.{Refusal}
-use Rattle.definitions.specs.declared.Refusal.the-variants.{IllFormedCatalogue}
+use Rattle.definitions.specs.declared.Selection.{Selection}
 use Rattle.definitions.specs.declared.Judgement.the-variants.{Accepted}
 use Rattle.definitions.specs.declared.Uniformity.the-variants.{Value}
 use Rattle.definitions.specs.declared.Lookup.the-variants.{NoBody}
@@ -31,8 +30,12 @@ use Rattle.definitions.specs.declared.Position.{Position}
 use Rattle.definitions.specs.declared.Position.the-variants.{Start}
 use Rattle.net_laws.specs.Smallest.{SmallestNet}
 use Rattle.page_laws.specs.Rows.{rowsOf}
-use Rattle.ranking_laws.specs.Session.{asks, afterLast, Session, closes, goes-on}
-use Rattle.demands.specs.Demand1.{Exact, numberOf, opening-exact, looking-empty, judging-exact, measuring-exact, paging-exact, pointing-exact, looking-exact, paging-keeps, pointing-keeps}
+use Rattle.ranking_laws.specs.Reading.{afterLast, closes, goes-on}
+use Rattle.ranking_laws.specs.Session.{Session}
+use Rattle.demands.specs.Arguments.{second, fifth}
+use Rattle.demands.specs.Demand1.{Exact, LowestGiven, numberOf, formSituation, opening-exact, looking-empty, looking-exact, looking-lowest}
+use Rattle.demands.specs.Demand1.{judging-exact, judging-lowest, measuring-exact, measuring-lowest}
+use Rattle.demands.specs.Demand1.{paging-exact, paging-lowest, paging-keeps, pointing-exact, pointing-lowest, pointing-keeps}
 use Rattle.demands.specs.Demand2.{Conditions, accepted-exactly, uniformity-smallest, period-written}
 use Rattle.demands.specs.Demand3.{pages-whole}
 use Rattle.generator.proofs.judge.Reads as judge
@@ -44,93 +47,136 @@ use Rattle.catalogue.proofs.lookup.Reads as lookup
 use Rattle.catalogue.proofs.body.Reads as body
 use Rattle.catalogue.proofs.reader as reader
 
--- ---- 1: each refusal exactly in its situation, and no slice changed by a refusing call
+-- ---- judging
 
-pub judge-exact : (κs : _) (a : _) (r : _) (e : _) → judge.Post κs a r e → Exact (judging (a .0) (a .1 .0) (a .1 .1 .0)) (numberOf (judgementValues r))
-judge-exact κs a r e h = rw h (judging-exact (a .0) (a .1 .0) (a .1 .1 .0))
+module _ (κs : _) (m p q : ℕ) (r : _) (e : _) (h : judge.Post κs (m, (p, (q, tt))) r e) where
+  pub judge-exact : Exact (judging m p q) (numberOf (judgementValues r))
+  judge-exact = rw h (judging-exact m p q)
 
-pub t-value-exact : (κs : _) (a : _) (r : _) (e : _) → t-value.Post κs a r e
-    → Exact (measuring (a .0) (a .1 .0) (a .1 .1 .0) (a .1 .1 .1 .0)) (numberOf (uniformityValues r))
-t-value-exact κs a r e h = rw h (measuring-exact (a .0) (a .1 .0) (a .1 .1 .0) (a .1 .1 .1 .0))
+  pub judge-lowest : LowestGiven (judging m p q) (numberOf (judgementValues r))
+  judge-lowest = rw h (judging-lowest m p q)
 
-pub page-exact : (κs : _) (a : _) (r : _) (e : _) → page.Post κs a r e → Exact (paging (a .0) (now (a .1 .0))) (numberOf (pageValues r))
-page-exact κs a r e h = rw (h .0) (paging-exact (a .0) (now (a .1 .0)))
+  pub judge-accepts : (σ : ℕ) → (r ≡ Accepted σ) ↔ Conditions m p q σ
+  judge-accepts σ = rw h (accepted-exactly m p q σ)
 
-pub page-keeps : (κs : _) (a : _) (r : _) (e : _) → page.Post κs a r e → (n : Refusal) → r ≡ NoPage n → now (e .1 .0) ≡ now (a .1 .0)
-page-keeps κs a r e h n d = h .1 ∙ paging-keeps (a .0) (now (a .1 .0)) n (sym (h .0) ∙ d)
+-- ---- a single t-value
 
-pub points-exact : (κs : _) (a : _) (r : _) (e : _) → points.Post κs a r e
-    → Exact (pointing (a .0) (a .1 .0) (a .1 .1 .0) (a .1 .1 .1 .0)) (numberOf (pointsValues r))
-points-exact κs a r e h = rw (h .0) (pointing-exact (a .0) (a .1 .0) (a .1 .1 .0) (a .1 .1 .1 .0) (now (a .1 .1 .1 .1 .0)))
+module _ (κs : _) (m p q s : ℕ) (r : _) (e : _) (h : t-value.Post κs (m, (p, (q, (s, tt)))) r e) where
+  pub t-value-exact : Exact (measuring m p q s) (numberOf (uniformityValues r))
+  t-value-exact = rw h (measuring-exact m p q s)
 
-pub points-keep : (κs : _) (a : _) (r : _) (e : _) → points.Post κs a r e → (n : Refusal) → r ≡ NotWritten n → now (e .1 .1 .1 .1 .0) ≡ now (a .1 .1 .1 .1 .0)
-points-keep κs a r e h n d = h .1 ∙ pointing-keeps (a .0) (a .1 .0) (a .1 .1 .0) (a .1 .1 .1 .0) (now (a .1 .1 .1 .1 .0)) n (sym (h .0) ∙ d)
+  pub t-value-lowest : LowestGiven (measuring m p q s) (numberOf (uniformityValues r))
+  t-value-lowest = rw h (measuring-lowest m p q s)
 
-pub open-exact : (κs : _) (a : _) (r : _) (e : _) → opened.Post κs a r e
-    → Exact (situation (not (catalogueForm (now (a .0)))) IllFormedCatalogue ∷ []) (numberOf (openingValues r))
-open-exact κs a r e h = rw h (opening-exact (now (a .0)))
+  pub t-value-is-smallest : (t : ℕ) → r ≡ Value t → SmallestNet m p q s t
+  t-value-is-smallest t d = uniformity-smallest m p q s t (sym h ∙ d)
 
-pub lookup-exact : (κs : _) (a : _) (r : _) (e : _) → lookup.Post κs a r e → Exact (looking (now (a .0)) (a .1 .0)) (numberOf (lookupValues r))
-lookup-exact κs a r e h = rw h (looking-exact (now (a .0)) (a .1 .0))
+-- ---- points
+
+module _ (κs : _) (m p q first : ℕ) (lent : _) (r : _) (e : _) (h : points.Post κs (m, (p, (q, (first, (lent, tt))))) r e) where
+  pub points-exact : Exact (pointing m p q first) (numberOf (pointsValues r))
+  points-exact = rw (h .0) (pointing-exact m p q first (now lent))
+
+  pub points-lowest : LowestGiven (pointing m p q first) (numberOf (pointsValues r))
+  points-lowest = rw (h .0) (pointing-lowest m p q first (now lent))
+
+  pub points-keep : (n : Refusal) → r ≡ NotWritten n → now (fifth e) ≡ now lent
+  points-keep n d = h .1 ∙ pointing-keeps m p q first (now lent) n (sym (h .0) ∙ d)
+
+-- A pair that judging accepts, from the first word on, into a slice that is long enough.
+module _ (κs : _) (m p q : ℕ) (lent : _) (r : _) (e : _) (h : points.Post κs (m, (p, (q, (0, (lent, tt))))) r e) where
+  pub points-full : (σ : ℕ) → Conditions m p q σ → period m ≤ length (now lent) → now (fifth e) ≡ over 0 (words p q 0 (period m)) (now lent)
+  points-full σ c l = h .1 ∙ period-written m p q σ c (now lent) l
+
+-- ---- the catalogue
+
+pub open-exact : (κs : _) (file : _) (r : _) (e : _) → opened.Post κs (file, tt) r e → Exact (formSituation (now file)) (numberOf (openingValues r))
+open-exact κs file r e h = rw h (opening-exact (now file))
+
+module _ (κs : _) (file : _) (m : ℕ) (r : _) (e : _) (h : lookup.Post κs (file, (m, tt)) r e) where
+  pub lookup-exact : Exact (looking (now file) m) (numberOf (lookupValues r))
+  lookup-exact = rw h (looking-exact (now file) m)
+
+  pub lookup-lowest : LowestGiven (looking (now file) m) (numberOf (lookupValues r))
+  lookup-lowest = rw h (looking-lowest (now file) m)
 
 -- The part is empty where the lookup of the same file and degree is refused.
-pub body-empty : (κs : _) (a : _) (r : _) (e : _) → body.Post κs a r e → (n : Refusal) → lookupNumbers (now (a .0)) (a .1 .0) ≡ NoBody n → now r ≡ []
-body-empty κs a r e h n d = h ∙ looking-empty (now (a .0)) (a .1 .0) n d .0
+pub body-empty : (κs : _) (file : _) (m : ℕ) (r : _) (e : _) → body.Post κs (file, (m, tt)) r e
+    → (n : Refusal) → lookupNumbers (now file) m ≡ NoBody n → now r ≡ []
+body-empty κs file m r e h n d = h ∙ looking-empty (now file) m n d .0
 
 -- A reader opened there has that empty part and T = 0, so it is at the end. The toolchain gives no `Post` for a struct that holds a slice: this is
 -- the clause itself, in any model of the logic.
-pub reader-empty : (w : World) (κs : _) (a : ArgsD reader.signature κs) (r : _) (e : _) (n : Refusal) → lookupNumbers (now (a .0)) (a .1 .0) ≡ NoBody n
-    → ent (w .𝓤) (reader.clauses (w .𝓤) (w .H) (w .𝓖 .A) (w .𝓜 .mem) (w .𝓡 .run) κs a .ensures tt r e)
-    (fact (w .𝓤) ((now (r .body) ≡ []) × (r .top ≡ 0)))
-reader-empty w κs a r e n d =
-    let empty = looking-empty (now (a .0)) (a .1 .0) n d in
-    fact-mono (w .𝓤) _ _ (λ x. (x .0 ∙ empty .0, x .2 ∙ empty .1))
+module _ (w : World) (κs : _) (a : ArgsD reader.signature κs) where
+  abbrev file : List ℕ
+  file = now (a .0)
 
--- ---- 2: accepted exactly when, the smallest t, the full period
+  abbrev degree : ℕ
+  degree = second a
 
-pub judge-accepts : (κs : _) (a : _) (r : _) (e : _) → judge.Post κs a r e → (σ : ℕ) → (r ≡ Accepted σ) ↔ Conditions (a .0) (a .1 .0) (a .1 .1 .0) σ
-judge-accepts κs a r e h σ = rw h (accepted-exactly (a .0) (a .1 .0) (a .1 .1 .0) σ)
+  pub reader-empty : (r : _) (e : _) (n : Refusal) → lookupNumbers file degree ≡ NoBody n
+      → ent (w .𝓤) (reader.clauses (w .𝓤) (w .H) (w .𝓖 .A) (w .𝓜 .mem) (w .𝓡 .run) κs a .ensures tt r e)
+      (fact (w .𝓤) ((now (r .body) ≡ []) × (r .top ≡ 0)))
+  reader-empty r e n d =
+      let empty = looking-empty file degree n d in
+      fact-mono (w .𝓤) _ _ (λ x. (x .0 ∙ empty .0, x .2 ∙ empty .1))
 
-pub t-value-is-smallest : (κs : _) (a : _) (r : _) (e : _) → t-value.Post κs a r e → (t : ℕ) → r ≡ Value t
-    → SmallestNet (a .0) (a .1 .0) (a .1 .1 .0) (a .1 .1 .1 .0) t
-t-value-is-smallest κs a r e h t d = uniformity-smallest (a .0) (a .1 .0) (a .1 .1 .0) (a .1 .1 .1 .0) t (sym h ∙ d)
+-- ---- a page
 
--- A pair that judging accepts, from the first word on, into a slice that is long enough.
-pub points-full : (κs : _) (a : _) (r : _) (e : _) → points.Post κs a r e → (σ : ℕ) → Conditions (a .0) (a .1 .0) (a .1 .1 .0) σ → a .1 .1 .1 .0 ≡ 0
-    → period (a .0) ≤ length (now (a .1 .1 .1 .1 .0))
-    → now (e .1 .1 .1 .1 .0) ≡ words (a .1 .0) (a .1 .1 .0) 0 (period (a .0)) ++ drop (period (a .0)) (now (a .1 .1 .1 .1 .0))
-points-full κs a r e h σ c z l =
-    h .1 ∙ ap (λ (i : ℕ). pointsSlice (a .0) (a .1 .0) (a .1 .1 .0) i (now (a .1 .1 .1 .1 .0))) z ∙ period-written (a .0) (a .1 .0) (a .1 .1 .0) σ c _ l
+module _ (κs : _) (request : PageRequest) (lent : _) (r : _) (e : _) (h : page.Post κs (request, (lent, tt)) r e) where
+  pub page-exact : Exact (paging request (now lent)) (numberOf (pageValues r))
+  page-exact = rw (h .0) (paging-exact request (now lent))
 
--- ---- 3: the walk of pages
+  pub page-lowest : LowestGiven (paging request (now lent)) (numberOf (pageValues r))
+  page-lowest = rw (h .0) (paging-lowest request (now lent))
 
--- `Calls m top lent at i ps`: a page is asked for at the position with the slice `lent i`, the contract is met, the n rows of the answer are read
--- out of the slice at exit, and the next page is asked for after the last of them with the next slice, until an answer says that nothing follows.
-pub data Calls (m top : ℕ) (lent : ℕ → List ℕ) : Position → ℕ → List (List (List ℕ)) → Type 1 where
-  last-call : {at : Position} {i n : ℕ} (κs : _) (a : _) (r : _) (e : _) → page.Post κs a r e → a .0 ≡ asks m top at
-      → now (a .1 .0) ≡ lent i → r ≡ Page n false → Calls m top lent at i (rowsOf (rowWidth top) n (now (e .1 .0)) ∷ [])
-  call : {at : Position} {i n : ℕ} {ps : List (List (List ℕ))} (κs : _) (a : _) (r : _) (e : _) → page.Post κs a r e → a .0 ≡ asks m top at
-      → now (a .1 .0) ≡ lent i → r ≡ Page n true → Calls m top lent (afterLast (rowsOf (rowWidth top) n (now (e .1 .0)))) (suc i) ps
-      → Calls m top lent at i (rowsOf (rowWidth top) n (now (e .1 .0)) ∷ ps)
+  pub page-keeps : (n : Refusal) → r ≡ NoPage n → now (second e) ≡ now lent
+  page-keeps n d = h .1 ∙ paging-keeps request (now lent) n (sym (h .0) ∙ d)
 
-module _ {request : PageRequest} {s : List ℕ} (κs : _) (a : _) (r : _) (e : _) (h : page.Post κs a r e) (asked : a .0 ≡ request) (slice : now (a .1 .0) ≡ s) where
-  answered : {n : ℕ} {more : Bool} → r ≡ Page n more → pageAnswer request s ≡ Page n more
-  answered d = sym (ap₂ pageAnswer asked slice) ∙ sym (h .0) ∙ d
+-- ---- the walk of pages
 
-  left : now (e .1 .0) ≡ pageSlice request s
-  left = h .1 ∙ ap₂ pageSlice asked slice
+-- A way to ask for pages: `asked at s n further left` says that a call at the position, with a slice that held s, has answered that there are
+-- n rows and whether a further one exists, and has left `left` in the slice.
+abbrev pub Asking : Type 1
+Asking = Position → List ℕ → ℕ → Bool → List ℕ → Type 0
 
--- What such calls read is what the session of the definitions reads.
-calls-session : {m top : ℕ} {lent : ℕ → List ℕ} {at : Position} {i : ℕ} {ps : List (List (List ℕ))} → Calls m top lent at i ps → Session m top lent at i ps
-calls-session {m} {top} {lent} {at} {i} (last-call {n = n} κs a r e h asked slice d) =
-    subst (λ (o : List ℕ). Session m top lent at i (rowsOf (rowWidth top) n o ∷ [])) (sym (left κs a r e h asked slice))
-    (closes (answered κs a r e h asked slice d))
-calls-session {m} {top} {lent} {at} {i} (call {n = n} {ps = ps} κs a r e h asked slice d more) =
-    subst (λ (o : List ℕ). Session m top lent at i (rowsOf (rowWidth top) n o ∷ ps)) (sym (left κs a r e h asked slice))
-    (goes-on (answered κs a r e h asked slice d)
-    (subst (λ (o : List ℕ). Session m top lent (afterLast (rowsOf (rowWidth top) n o)) (suc i) ps) (left κs a r e h asked slice) (calls-session more)))
+-- `Calls width asked lent at i ps`: a page is asked for at the position with the slice `lent i`, the rows of the answer are read out of the slice at
+-- exit, and the next page is asked for after the last of them with the next slice, until an answer says that nothing follows.
+pub data Calls (width : ℕ) (asked : Asking) (lent : ℕ → List ℕ) : Position → ℕ → List (List (List ℕ)) → Type 0 where
+  last-call : {at : Position} {i n : ℕ} {left : List ℕ} → asked at (lent i) n false left → Calls width asked lent at i (rowsOf width n left ∷ [])
+  call : {at : Position} {i n : ℕ} {left : List ℕ} {ps : List (List (List ℕ))} → asked at (lent i) n true left
+      → Calls width asked lent (afterLast (rowsOf width n left)) (suc i) ps → Calls width asked lent at i (rowsOf width n left ∷ ps)
 
--- The pages that were read, joined, are the whole ranked list.
-module _ (m top : ℕ) (degree : lawfulDegree m ≡ true) (dimension : lawfulTop top ≡ true) (lent : ℕ → List ℕ) (room : (i : ℕ) → rowWidth top ≤ length (lent i)) where
-  pub calls-whole : {ps : List (List (List ℕ))} → Calls m top lent Start 0 ps → (length ps ≤ length (ranked m top) + 1) × (join ps ≡ ranked m top)
-  calls-whole c = pages-whole m top degree dimension lent room (calls-session c)
+module _ (l : Selection) where
+  -- Such a way asks for pages of a list where answer and slice are the definition's.
+  abbrev pub Faithful : Asking → Type 0
+  Faithful asked = (at : Position) (s : List ℕ) (n : ℕ) (further : Bool) (left : List ℕ) → asked at s n further left
+      → (pageAnswer (pageRequest l at) s ≡ Page n further) × (left ≡ pageSlice (pageRequest l at) s)
+
+  -- What such calls read is what the session of the definitions reads.
+  calls-session : {asked : Asking} → Faithful asked → {lent : ℕ → List ℕ} {at : Position} {i : ℕ} {ps : List (List (List ℕ))}
+      → Calls (rowWidth l) asked lent at i ps → Session l lent at i ps
+  calls-session f {lent} (last-call {at = at} {i = i} c) = let g = f at (lent i) _ false _ c in rw (g .1) (closes (g .0))
+  calls-session f {lent} (call {at = at} {i = i} c more) =
+      let g = f at (lent i) _ true _ c in
+      rw (g .1) (goes-on (g .0) (rw (g .1) at (calls-session f more)))
+
+  -- The pages that were read, joined, are the whole ranked list.
+  module _ (degree : lawfulDegree (l .degree) ≡ true) (dimension : lawfulTop (l .top) ≡ true) (lent : ℕ → List ℕ) where
+    pub faithful-whole : {asked : Asking} → Faithful asked → ((i : ℕ) → rowWidth l ≤ length (lent i)) → {ps : List (List (List ℕ))}
+        → Calls (rowWidth l) asked lent Start 0 ps → (length ps ≤ length (ranked l) + 1) × (join ps ≡ ranked l)
+    faithful-whole f room c = pages-whole l degree dimension lent room (calls-session f c)
+
+-- Asked by `page`, its contract being met.
+pub data AskedPage (l : Selection) : Position → List ℕ → ℕ → Bool → List ℕ → Type 0 where
+  asked-page : {at : Position} {n : ℕ} {further : Bool} (κs : _) (slice : _) (e : _) → page.Post κs (pageRequest l at, (slice, tt)) (Page n further) e
+      → AskedPage l at (now slice) n further (now (second e))
+
+pub page-faithful : (l : Selection) → Faithful l (AskedPage l)
+page-faithful l at s n further left (asked-page κs slice e h) = (sym (h .0), h .1)
+
+-- READ BY CALLS OF `page`.
+module _ (l : Selection) (degree : lawfulDegree (l .degree) ≡ true) (dimension : lawfulTop (l .top) ≡ true) (lent : ℕ → List ℕ) where
+  pub calls-whole : ((i : ℕ) → rowWidth l ≤ length (lent i)) → {ps : List (List (List ℕ))}
+      → Calls (rowWidth l) (AskedPage l) lent Start 0 ps → (length ps ≤ length (ranked l) + 1) × (join ps ≡ ranked l)
+  calls-whole = faithful-whole l degree dimension lent (page-faithful l)

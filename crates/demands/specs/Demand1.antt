@@ -3,7 +3,7 @@
 -- Each call's numbers ascend, so it is the lowest number that is given. Each situation is shown as document 01's table has it. Assumes nothing.
 use mathlib.Core.Path.{_≡_, refl}
 use mathlib.Core.Logic.{_↔_}
-use mathlib.Core.Bool.{Bool, true, false, not}
+use mathlib.Core.Bool.{Bool, true, not}
 use mathlib.Core.List.{List, [], _∷_, map, List·Memᴰ}
 use Prim.Native.Nat.{ℕ, _-_, _<_}
 use native.Mathlib.Omega.{arith}
@@ -28,7 +28,7 @@ use Rattle.definitions.specs.declared.PageAnswer.the-variants.{NoPage}
 use Rattle.definitions.specs.declared.PointsAnswer.the-variants.{NotWritten}
 use Rattle.definitions.specs.declared.Opening.the-variants.{Closed}
 use Rattle.definitions.specs.declared.Lookup.the-variants.{NoBody}
-use Rattle.answer_laws.specs.Unless.{unless-both, unless-refused, told-refused}
+use Rattle.answer_laws.specs.Unless.{NoneApplies, unless-both, unless-refused, told-refused}
 use Rattle.answer_laws.specs.Lent.{page-keeps, points-keep}
 use Rattle.demands.specs.Situations.{applies, numbersOf, distinct, toldApart, ascend, given, FirstToApply, Lowest, given-exactly, given-none}
 use Rattle.demands.specs.Situations.{given-listed, first-is-lowest}
@@ -40,7 +40,7 @@ numberOf values = getD values 0 0
 -- An answer's number follows the situations: n is given exactly in its situation, 0 exactly where none applies, and only listed numbers are given.
 pub record Exact (l : List Situation) (number : ℕ) : Type 0 where
   pub each : (n : ℕ) → 0 < n → (number ≡ n) ↔ FirstToApply l n
-  pub none : (number ≡ 0) ↔ ((n : ℕ) → applies l n ≡ false)
+  pub none : (number ≡ 0) ↔ NoneApplies l
   pub only : 0 < number → List·Memᴰ number (numbersOf l)
 
 -- Where several situations apply, the lowest number is given.
@@ -48,7 +48,7 @@ pub record LowestGiven (l : List Situation) (number : ℕ) : Type 0 where
   pub each : (n : ℕ) → 0 < n → (number ≡ n) ↔ Lowest l n
 
 -- So it is of an answer of any kind whose values begin with the refusal's number, or 0.
-exact : {A : Type 0} (values : A → List ℕ) (l : List Situation) (refuse : Refusal → A) (value : A) → toldApart l ≡ true
+pub exact : {A : Type 0} (values : A → List ℕ) (l : List Situation) (refuse : Refusal → A) (value : A) → toldApart l ≡ true
     → ((r : Refusal) → numberOf (values (refuse r)) ≡ refusalNumber r) → numberOf (values value) ≡ 0 → Exact l (numberOf (values (unless l refuse value)))
 unfolding given
 exact values l refuse value apart refused zero =

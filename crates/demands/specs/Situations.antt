@@ -13,7 +13,7 @@ use borrow.Author.Tests.{ltb-true, eqb-true, eq-eqb, ne-eqb, not-true}
 use Rattle.definitions.specs.Answers.{refusalNumber, Situation, unless}
 use Rattle.definitions.specs.declared.Refusal.{Refusal}
 use Rattle.number_laws.specs.Truth.{truth-false, not-both, by-test}
-use Rattle.answer_laws.specs.Unless.{Decides, here, later, NoneApplies, at-end, passes, Outcome, is-refused, is-given, outcome, unless-refused, unless-given}
+use Rattle.answer_laws.specs.Unless.{Decides, here, later, NoneApplies, Outcome, is-refused, is-given, outcome, unless-refused, unless-given}
 use Rattle.answer_laws.specs.Unless.{told-refused}
 
 -- The number of a situation, and of each of a list.
@@ -80,11 +80,6 @@ applies-unlisted l n h = truth-false (applies l n) (λ t. h (applies-listed l n 
 decides-listed : {r : Refusal} {l : List Situation} → Decides r l → List·Memᴰ (refusalNumber r) (numbersOf l)
 decides-listed (here e) = List·Memᴰ·head refl
 decides-listed (later e d) = List·Memᴰ·tail (decides-listed d)
-
-none-applies : {l : List Situation} → NoneApplies l → (n : ℕ) → applies l n ≡ false
-unfolding applies
-none-applies at-end n = refl
-none-applies (passes {s = s} e a) n = by-test (eqb (situationNumber s) n) (λ t. rw t e) (λ f. rw f (none-applies a n))
 
 -- ---- one situation more, whose number is not listed behind it
 
@@ -184,18 +179,14 @@ module _ (l : List Situation) (apart : toldApart l ≡ true) where
       from : FirstToApply l n → given l ≡ n
       from w = let x = first-decides l n w once in unless-refused refusalNumber 0 (x .1) ∙ x .2
 
-  -- No refusal is given exactly when no situation applies.
-  pub given-none : (given l ≡ 0) ↔ ((n : ℕ) → applies l n ≡ false)
+  -- THE VALUE: no refusal is given exactly when no situation applies.
+  pub given-none : (given l ≡ 0) ↔ NoneApplies l
   unfolding given
-  given-none = (λ e n. to e (outcome l) n, λ f. from f (outcome l))
+  given-none = (λ e. to e (outcome l), unless-given refusalNumber 0)
     where
-      to : given l ≡ 0 → Outcome l → (n : ℕ) → applies l n ≡ false
-      to e (is-refused d) n = absurd (no-zero (rw (sym (unless-refused refusalNumber 0 d) ∙ e) at (decides-listed d)))
-      to e (is-given a) n = none-applies a n
-
-      from : ((n : ℕ) → applies l n ≡ false) → Outcome l → given l ≡ 0
-      from f (is-refused {r = r} d) = not-both (decides-first d once .holds) (f (refusalNumber r))
-      from f (is-given a) = unless-given refusalNumber 0 a
+      to : given l ≡ 0 → Outcome l → NoneApplies l
+      to e (is-refused d) = absurd (no-zero (rw (sym (unless-refused refusalNumber 0 d) ∙ e) at (decides-listed d)))
+      to e (is-given a) = a
 
   -- Only listed numbers are given.
   pub given-listed : 0 < given l → List·Memᴰ (given l) (numbersOf l)

@@ -1,13 +1,12 @@
 -- No choice is left: for each public call, two results, and what two runs leave in the lent slices, that its contract allows are equal.
 -- Each statement is over the contract itself: `Post`, made by the toolchain from the source's `ensures` clauses, is what they claim of the lifetimes,
--- the arguments, the result and the arguments at exit (`e .0` is the first of these, `e .1 .0` the second, and so on). Every clause is an equation
--- with one definition, and what equals one thing is equal.
+-- the arguments, the result and the arguments at exit. Every clause is an equation with one definition, and what equals one thing is equal.
 -- Assumes nothing.
-use mathlib.Core.Path.{_≡_, sym, _∙_}
+use mathlib.Core.Path.{_≡_, sym, ap₂, _∙_}
 use denote.Ref.{now}
 use base.Logic.{ent}
 use contract.Monad.{conj, conjL, conjR, fact, factI, fact-use}
-use borrow.Fn.World.{World}
+use borrow.Fn.World.{World, Pr}
 use Rattle.generator.proofs.judge.Reads as judge
 use Rattle.net.proofs.t_value.Reads as t-value
 use Rattle.ranking.proofs.page.Reads as page
@@ -17,6 +16,10 @@ use Rattle.catalogue.proofs.lookup.Reads as lookup
 use Rattle.catalogue.proofs.body.Reads as body
 use Rattle.catalogue.proofs.row_at.Reads as row-at
 use Rattle.catalogue.proofs.place_behind.Reads as place-behind
+use Rattle.line.proofs.read_numbers.Reads as read-numbers
+use Rattle.text.proofs.put_decimal.Reads as text-put-decimal
+use Rattle.text.proofs.put_line.Reads as put-line
+use Rattle.text.proofs.put_long_line.Reads as put-long-line
 use Rattle.listing.proofs.read_line.Reads as read-line
 use Rattle.listing.proofs.put_decimal.Reads as put-decimal
 use Rattle.listing.proofs.put_header.Reads as put-header
@@ -32,120 +35,146 @@ use Rattle.interface.proofs.fenyurka_t_value.Reads as c-t-value
 use Rattle.interface.proofs.fenyurka_first_page.Reads as c-first-page
 use Rattle.interface.proofs.fenyurka_page_after.Reads as c-page-after
 use Rattle.interface.proofs.fenyurka_points.Reads as c-points
-use Rattle.interface.proofs.fenyurka_open.Reads as c-opened
+use Rattle.interface.proofs.fenyurka_open.Reads as c-open
 use Rattle.interface.proofs.fenyurka_lookup.Reads as c-lookup
 use Rattle.interface.proofs.fenyurka_row.Reads as c-row
+use Rattle.demands.specs.Arguments.{second, fourth, fifth}
+
+-- ---- what is shown
+
+-- Of two runs with the same arguments, whatever results and exits a contract allows, the same is seen.
+abbrev pub Determined : {L : Type 0} {A R E S : L → Type 0} → ((κs : L) → A κs → R κs → E κs → Type 0) → ((κs : L) → R κs → E κs → S κs) → Type 0
+Determined {L} {A} {R} {E} allows seen =
+    (κs : L) (a : A κs) (r r′ : R κs) (e e′ : E κs) → allows κs a r e → allows κs a r′ e′ → seen κs r e ≡ seen κs r′ e′
+
+-- The result r and what the slice s holds, seen together.
+infixr 20 _and_
+abbrev pub _and_ : {A B : Type 0} → A → B → A × B
+r and s = (r, s)
 
 same : {A : Type 0} {x y z : A} → x ≡ z → y ≡ z → x ≡ y
-same a b = a ∙ sym b
+same x y = x ∙ sym y
+
+both : {A B : Type 0} {r r′ x : A} {s s′ y : B} → (r ≡ x) × (s ≡ y) → (r′ ≡ x) × (s′ ≡ y) → (r and s) ≡ (r′ and s′)
+both x y = ap₂ _and_ (same (x .0) (y .0)) (same (x .1) (y .1))
 
 -- ---- calls with a result alone
 
-pub judge-unique : (κs : _) (a : _) (r r′ : _) (e e′ : _) → judge.Post κs a r e → judge.Post κs a r′ e′ → r ≡ r′
-judge-unique κs a r r′ e e′ x y = same x y
+pub judge-unique : Determined judge.Post (λ κs r e. r)
+judge-unique κs a r r′ e e′ = same
 
-pub t-value-unique : (κs : _) (a : _) (r r′ : _) (e e′ : _) → t-value.Post κs a r e → t-value.Post κs a r′ e′ → r ≡ r′
-t-value-unique κs a r r′ e e′ x y = same x y
+pub t-value-unique : Determined t-value.Post (λ κs r e. r)
+t-value-unique κs a r r′ e e′ = same
 
-pub open-unique : (κs : _) (a : _) (r r′ : _) (e e′ : _) → opened.Post κs a r e → opened.Post κs a r′ e′ → r ≡ r′
-open-unique κs a r r′ e e′ x y = same x y
+pub open-unique : Determined opened.Post (λ κs r e. r)
+open-unique κs a r r′ e e′ = same
 
-pub lookup-unique : (κs : _) (a : _) (r r′ : _) (e e′ : _) → lookup.Post κs a r e → lookup.Post κs a r′ e′ → r ≡ r′
-lookup-unique κs a r r′ e e′ x y = same x y
+pub lookup-unique : Determined lookup.Post (λ κs r e. r)
+lookup-unique κs a r r′ e e′ = same
 
 -- Determined in its bytes, and not as a pointer: any part with these bytes answers.
-pub body-unique : (κs : _) (a : _) (r r′ : _) (e e′ : _) → body.Post κs a r e → body.Post κs a r′ e′ → now r ≡ now r′
-body-unique κs a r r′ e e′ x y = same x y
+pub body-unique : Determined body.Post (λ κs r e. now r)
+body-unique κs a r r′ e e′ = same
 
-pub row-at-unique : (κs : _) (a : _) (r r′ : _) (e e′ : _) → row-at.Post κs a r e → row-at.Post κs a r′ e′ → r ≡ r′
-row-at-unique κs a r r′ e e′ x y = same x y
+pub row-at-unique : Determined row-at.Post (λ κs r e. r)
+row-at-unique κs a r r′ e e′ = same
 
-pub place-behind-unique : (κs : _) (a : _) (r r′ : _) (e e′ : _) → place-behind.Post κs a r e → place-behind.Post κs a r′ e′ → r ≡ r′
-place-behind-unique κs a r r′ e e′ x y = same x y
+pub place-behind-unique : Determined place-behind.Post (λ κs r e. r)
+place-behind-unique κs a r r′ e e′ = same
 
-pub read-line-unique : (κs : _) (a : _) (r r′ : _) (e e′ : _) → read-line.Post κs a r e → read-line.Post κs a r′ e′ → r ≡ r′
-read-line-unique κs a r r′ e e′ x y = same x y
+pub read-line-unique : Determined read-line.Post (λ κs r e. r)
+read-line-unique κs a r r′ e e′ = same
 
 -- ---- calls with a lent slice
 
-pub page-unique : (κs : _) (a : _) (r r′ : _) (e e′ : _) → page.Post κs a r e → page.Post κs a r′ e′ → (r ≡ r′) × (now (e .1 .0) ≡ now (e′ .1 .0))
-page-unique κs a r r′ e e′ x y = (same (x .0) (y .0), same (x .1) (y .1))
+pub page-unique : Determined page.Post (λ κs r e. r and now (second e))
+page-unique κs a r r′ e e′ = both
 
-pub points-unique : (κs : _) (a : _) (r r′ : _) (e e′ : _) → points.Post κs a r e → points.Post κs a r′ e′ → (r ≡ r′) × (now (e .1 .1 .1 .1 .0) ≡ now (e′ .1 .1 .1 .1 .0))
-points-unique κs a r r′ e e′ x y = (same (x .0) (y .0), same (x .1) (y .1))
+pub points-unique : Determined points.Post (λ κs r e. r and now (fifth e))
+points-unique κs a r r′ e e′ = both
 
-pub put-decimal-unique : (κs : _) (a : _) (r r′ : _) (e e′ : _) → put-decimal.Post κs a r e → put-decimal.Post κs a r′ e′ → (r ≡ r′) × (now (e .0) ≡ now (e′ .0))
-put-decimal-unique κs a r r′ e e′ x y = (same (x .0) (y .0), same (x .1) (y .1))
+pub read-numbers-unique : Determined read-numbers.Post (λ κs r e. r and now (second e))
+read-numbers-unique κs a r r′ e e′ = both
 
-pub put-header-unique : (κs : _) (a : _) (r r′ : _) (e e′ : _) → put-header.Post κs a r e → put-header.Post κs a r′ e′ → (r ≡ r′) × (now (e .0) ≡ now (e′ .0))
-put-header-unique κs a r r′ e e′ x y = (same (x .0) (y .0), same (x .1) (y .1))
+pub text-put-decimal-unique : Determined text-put-decimal.Post (λ κs r e. r and now (e .0))
+text-put-decimal-unique κs a r r′ e e′ = both
 
-pub put-row-unique : (κs : _) (a : _) (r r′ : _) (e e′ : _) → put-row.Post κs a r e → put-row.Post κs a r′ e′ → (r ≡ r′) × (now (e .0) ≡ now (e′ .0))
-put-row-unique κs a r r′ e e′ x y = (same (x .0) (y .0), same (x .1) (y .1))
+pub put-line-unique : Determined put-line.Post (λ κs r e. r and now (e .0))
+put-line-unique κs a r r′ e e′ = both
 
-pub put-page-unique : (κs : _) (a : _) (r r′ : _) (e e′ : _) → put-page.Post κs a r e → put-page.Post κs a r′ e′ → (r ≡ r′) × (now (e .0) ≡ now (e′ .0))
-put-page-unique κs a r r′ e e′ x y = (same (x .0) (y .0), same (x .1) (y .1))
+pub put-long-line-unique : Determined put-long-line.Post (λ κs r e. r and now (e .0))
+put-long-line-unique κs a r r′ e e′ = both
 
-pub put-total-unique : (κs : _) (a : _) (r r′ : _) (e e′ : _) → put-total.Post κs a r e → put-total.Post κs a r′ e′ → (r ≡ r′) × (now (e .0) ≡ now (e′ .0))
-put-total-unique κs a r r′ e e′ x y = (same (x .0) (y .0), same (x .1) (y .1))
+pub put-decimal-unique : Determined put-decimal.Post (λ κs r e. r and now (e .0))
+put-decimal-unique κs a r r′ e e′ = both
 
-pub put-refused-unique : (κs : _) (a : _) (r r′ : _) (e e′ : _) → put-refused.Post κs a r e → put-refused.Post κs a r′ e′ → (r ≡ r′) × (now (e .0) ≡ now (e′ .0))
-put-refused-unique κs a r r′ e e′ x y = (same (x .0) (y .0), same (x .1) (y .1))
+pub put-header-unique : Determined put-header.Post (λ κs r e. r and now (e .0))
+put-header-unique κs a r r′ e e′ = both
+
+pub put-row-unique : Determined put-row.Post (λ κs r e. r and now (e .0))
+put-row-unique κs a r r′ e e′ = both
+
+pub put-page-unique : Determined put-page.Post (λ κs r e. r and now (e .0))
+put-page-unique κs a r r′ e e′ = both
+
+pub put-total-unique : Determined put-total.Post (λ κs r e. r and now (e .0))
+put-total-unique κs a r r′ e e′ = both
+
+pub put-refused-unique : Determined put-refused.Post (λ κs r e. r and now (e .0))
+put-refused-unique κs a r r′ e e′ = both
 
 -- ---- the reader: the toolchain gives no `Post` for a struct that holds a slice, so the clauses themselves stand here, in any model of the logic
 
 module _ (w : World) where
+  -- The same of claims in a model.
+  abbrev pub DeterminedIn : {L : Type 0} {A R E S : L → Type 0} → ((κs : L) → A κs → R κs → E κs → Pr w) → ((κs : L) → R κs → E κs → S κs) → Type 1
+  DeterminedIn {L} {A} {R} {E} claims seen =
+      (κs : L) (a : A κs) (r r′ : R κs) (e e′ : E κs)
+      → ent (w .𝓤) (conj (w .𝓤) (claims κs a r e) (claims κs a r′ e′)) (fact (w .𝓤) (seen κs r e ≡ seen κs r′ e′))
+
   facts-both : {φ ψ χ : Type 0} → (φ → ψ → χ) → ent (w .𝓤) (conj (w .𝓤) (fact (w .𝓤) φ) (fact (w .𝓤) ψ)) (fact (w .𝓤) χ)
   facts-both {φ} {ψ} {χ} f =
       fact-use (w .𝓤) φ (conjL (w .𝓤) (fact (w .𝓤) φ) (fact (w .𝓤) ψ))
       (λ x. fact-use (w .𝓤) ψ (conjR (w .𝓤) (fact (w .𝓤) φ) (fact (w .𝓤) ψ)) (λ y. factI (w .𝓤) χ _ (f x y)))
 
-  pub reader-unique : (κs : _) (a : _) (r r′ : _) (e e′ : _)
-      → ent (w .𝓤)
-      (conj (w .𝓤)
-      (reader.clauses (w .𝓤) (w .H) (w .𝓖 .A) (w .𝓜 .mem) (w .𝓡 .run) κs a .ensures tt r e)
-      (reader.clauses (w .𝓤) (w .H) (w .𝓖 .A) (w .𝓜 .mem) (w .𝓡 .run) κs a .ensures tt r′ e′))
-      (fact (w .𝓤) ((now (r .body) ≡ now (r′ .body)) × (r .degree ≡ r′ .degree) × (r .top ≡ r′ .top) × (r .place ≡ r′ .place)))
-  reader-unique κs a r r′ e e′ = facts-both (λ x y. (same (x .0) (y .0), same (x .1) (y .1), same (x .2) (y .2), same (x .3) (y .3)))
+  all-four : {A B C D : Type 0} {a a′ x : A} {b b′ y : B} {c c′ z : C} {d d′ u : D} → (a ≡ x) × (b ≡ y) × (c ≡ z) × (d ≡ u)
+      → (a′ ≡ x) × (b′ ≡ y) × (c′ ≡ z) × (d′ ≡ u) → (a and b and c and d) ≡ (a′ and b′ and c′ and d′)
+  all-four x y =
+      ap₂ _and_ (same (x .0) (y .0)) (ap₂ _and_ (same (x .1) (y .1)) (ap₂ _and_ (same (x .2) (y .2)) (same (x .3) (y .3))))
 
-  pub next-unique : (κs : _) (a : _) (r r′ : _) (e e′ : _)
-      → ent (w .𝓤)
-      (conj (w .𝓤)
-      (next.clauses (w .𝓤) (w .H) (w .𝓖 .A) (w .𝓜 .mem) (w .𝓡 .run) κs a .ensures tt r e)
-      (next.clauses (w .𝓤) (w .H) (w .𝓖 .A) (w .𝓜 .mem) (w .𝓡 .run) κs a .ensures tt r′ e′))
-      (fact (w .𝓤) (r ≡ r′))
+  pub reader-unique : DeterminedIn (λ κs a r e. reader.clauses (w .𝓤) (w .H) (w .𝓖 .A) (w .𝓜 .mem) (w .𝓡 .run) κs a .ensures tt r e)
+      (λ κs r e. now (r .body) and r .degree and r .top and r .place)
+  reader-unique κs a r r′ e e′ = facts-both all-four
+
+  pub next-unique : DeterminedIn (λ κs a r e. next.clauses (w .𝓤) (w .H) (w .𝓖 .A) (w .𝓜 .mem) (w .𝓡 .run) κs a .ensures tt r e) (λ κs r e. r)
   next-unique κs a r r′ e e′ = facts-both same
 
-  pub advance-unique : (κs : _) (a : _) (r r′ : _) (e e′ : _)
-      → ent (w .𝓤)
-      (conj (w .𝓤)
-      (advance.clauses (w .𝓤) (w .H) (w .𝓖 .A) (w .𝓜 .mem) (w .𝓡 .run) κs a .ensures tt r e)
-      (advance.clauses (w .𝓤) (w .H) (w .𝓖 .A) (w .𝓜 .mem) (w .𝓡 .run) κs a .ensures tt r′ e′))
-      (fact (w .𝓤) ((r .body ≡ r′ .body) × (r .degree ≡ r′ .degree) × (r .top ≡ r′ .top) × (r .place ≡ r′ .place)))
-  advance-unique κs a r r′ e e′ = facts-both (λ x y. (same (x .0) (y .0), same (x .1) (y .1), same (x .2) (y .2), same (x .3) (y .3)))
+  pub advance-unique : DeterminedIn (λ κs a r e. advance.clauses (w .𝓤) (w .H) (w .𝓖 .A) (w .𝓜 .mem) (w .𝓡 .run) κs a .ensures tt r e)
+      (λ κs r e. r .body and r .degree and r .top and r .place)
+  advance-unique κs a r r′ e e′ = facts-both all-four
 
--- ---- from C: the number returned, each number stored and each slice
+-- ---- from C: the struct returned, and each slice
 
-pub c-judge-unique : (κs : _) (a : _) (r r′ : _) (e e′ : _) → c-judge.Post κs a r e → c-judge.Post κs a r′ e′ → (r ≡ r′) × (now (e .1 .1 .1 .0) ≡ now (e′ .1 .1 .1 .0))
-c-judge-unique κs a r r′ e e′ x y = (same (x .0) (y .0), same (x .1) (y .1))
+pub c-judge-unique : Determined c-judge.Post (λ κs r e. r)
+c-judge-unique κs a r r′ e e′ = same
 
-pub c-t-value-unique : (κs : _) (a : _) (r r′ : _) (e e′ : _) → c-t-value.Post κs a r e → c-t-value.Post κs a r′ e′ → (r ≡ r′) × (now (e .1 .1 .1 .1 .0) ≡ now (e′ .1 .1 .1 .1 .0))
-c-t-value-unique κs a r r′ e e′ x y = (same (x .0) (y .0), same (x .1) (y .1))
+pub c-t-value-unique : Determined c-t-value.Post (λ κs r e. r)
+c-t-value-unique κs a r r′ e e′ = same
 
-pub c-first-page-unique : (κs : _) (a : _) (r r′ : _) (e e′ : _) → c-first-page.Post κs a r e → c-first-page.Post κs a r′ e′ → (r ≡ r′) × (now (e .1 .1 .0) ≡ now (e′ .1 .1 .0)) × (now (e .1 .1 .1 .0) ≡ now (e′ .1 .1 .1 .0)) × (now (e .1 .1 .1 .1 .0) ≡ now (e′ .1 .1 .1 .1 .0))
-c-first-page-unique κs a r r′ e e′ x y = (same (x .0) (y .0), same (x .1 .0) (y .1 .0), same (x .1 .1 .0) (y .1 .1 .0), same (x .1 .1 .1) (y .1 .1 .1))
+pub c-first-page-unique : Determined c-first-page.Post (λ κs r e. r and now (second e))
+c-first-page-unique κs a r r′ e e′ = both
 
-pub c-page-after-unique : (κs : _) (a : _) (r r′ : _) (e e′ : _) → c-page-after.Post κs a r e → c-page-after.Post κs a r′ e′ → (r ≡ r′) × (now (e .1 .1 .1 .1 .0) ≡ now (e′ .1 .1 .1 .1 .0)) × (now (e .1 .1 .1 .1 .1 .0) ≡ now (e′ .1 .1 .1 .1 .1 .0)) × (now (e .1 .1 .1 .1 .1 .1 .0) ≡ now (e′ .1 .1 .1 .1 .1 .1 .0))
-c-page-after-unique κs a r r′ e e′ x y = (same (x .0) (y .0), same (x .1 .0) (y .1 .0), same (x .1 .1 .0) (y .1 .1 .0), same (x .1 .1 .1) (y .1 .1 .1))
+pub c-page-after-unique : Determined c-page-after.Post (λ κs r e. r and now (fourth e))
+c-page-after-unique κs a r r′ e e′ = both
 
-pub c-points-unique : (κs : _) (a : _) (r r′ : _) (e e′ : _) → c-points.Post κs a r e → c-points.Post κs a r′ e′ → (r ≡ r′) × (now (e .1 .1 .1 .1 .0) ≡ now (e′ .1 .1 .1 .1 .0)) × (now (e .1 .1 .1 .1 .1 .0) ≡ now (e′ .1 .1 .1 .1 .1 .0))
-c-points-unique κs a r r′ e e′ x y = (same (x .0) (y .0), same (x .1 .0) (y .1 .0), same (x .1 .1) (y .1 .1))
+pub c-points-unique : Determined c-points.Post (λ κs r e. r and now (fifth e))
+c-points-unique κs a r r′ e e′ = both
 
-pub c-open-unique : (κs : _) (a : _) (r r′ : _) (e e′ : _) → c-opened.Post κs a r e → c-opened.Post κs a r′ e′ → (r ≡ r′) × (now (e .1 .0) ≡ now (e′ .1 .0))
-c-open-unique κs a r r′ e e′ x y = (same (x .0) (y .0), same (x .1) (y .1))
+pub c-open-unique : Determined c-open.Post (λ κs r e. r)
+c-open-unique κs a r r′ e e′ = same
 
-pub c-lookup-unique : (κs : _) (a : _) (r r′ : _) (e e′ : _) → c-lookup.Post κs a r e → c-lookup.Post κs a r′ e′ → (r ≡ r′) × (now (e .1 .1 .0) ≡ now (e′ .1 .1 .0)) × (now (e .1 .1 .1 .0) ≡ now (e′ .1 .1 .1 .0)) × (now (e .1 .1 .1 .1 .0) ≡ now (e′ .1 .1 .1 .1 .0))
-c-lookup-unique κs a r r′ e e′ x y = (same (x .0) (y .0), same (x .1 .0) (y .1 .0), same (x .1 .1 .0) (y .1 .1 .0), same (x .1 .1 .1) (y .1 .1 .1))
+pub c-lookup-unique : Determined c-lookup.Post (λ κs r e. r)
+c-lookup-unique κs a r r′ e e′ = same
 
-pub c-row-unique : (κs : _) (a : _) (r r′ : _) (e e′ : _) → c-row.Post κs a r e → c-row.Post κs a r′ e′ → (r ≡ r′) × (now (e .1 .1 .1 .1 .0) ≡ now (e′ .1 .1 .1 .1 .0)) × (now (e .1 .1 .1 .1 .1 .0) ≡ now (e′ .1 .1 .1 .1 .1 .0))
-c-row-unique κs a r r′ e e′ x y = (same (x .0) (y .0), same (x .1 .0) (y .1 .0), same (x .1 .1) (y .1 .1))
+pub c-row-unique : Determined c-row.Post (λ κs r e. r)
+c-row-unique κs a r r′ e e′ = same
