@@ -1,5 +1,5 @@
-/* The header's functions in plain C made fast: what the library's figures are set beside. Nothing here is proved; tests/c holds it
-   against the reference as it does the library. Quick order tests, one walk down the tree for a page with the slice as workspace,
+/* The header's functions in plain C made fast: what the library's figures are set beside. Nothing here is proved; tests/c
+   compares it with the reference as it does the library. Quick order tests, one walk down the tree for a page with the slice as workspace,
    and for t the lightest linear relation between rows x^i q^j mod p, each dimension starting where the one before ended. */
 #include "fenyurka.h"
 
@@ -122,14 +122,12 @@ static uint32_t refusal_of(uint32_t m, uint32_t p, uint32_t q)
     return of_full_order(m, p, q) ? 0 : 6;
 }
 
-uint32_t fenyurka_judge(uint32_t degree, uint32_t p, uint32_t q, uint32_t *step)
+FenyurkaJudgement fenyurka_judge(uint32_t degree, uint32_t p, uint32_t q)
 {
     if (degree - 2 > MOST - 2)
-        return 1;
+        return (FenyurkaJudgement){.refusal = 1};
     uint32_t refusal = refusal_of(degree, p, q);
-    if (refusal == 0)
-        *step = step_of(p, q);
-    return refusal;
+    return (FenyurkaJudgement){.refusal = refusal, .step = refusal == 0 ? step_of(p, q) : 0};
 }
 
 /* ---- t-values: the lightest relation between leading digits, m + 1 where there is none as light */
@@ -198,21 +196,20 @@ static int invertible(uint32_t p, uint32_t q)
     return p == 1;
 }
 
-uint32_t fenyurka_t_value(uint32_t degree, uint32_t p, uint32_t q, uint32_t dimension, uint32_t *t)
+FenyurkaTValue fenyurka_t_value(uint32_t degree, uint32_t p, uint32_t q, uint32_t dimension)
 {
     struct search s;
-    uint32_t value = 0;
+    uint32_t t = 0;
     if (degree - 2 > MOST - 2)
-        return 1;
+        return (FenyurkaTValue){.refusal = 1};
     if (dimension - 1 > 7)
-        return 2;
+        return (FenyurkaTValue){.refusal = 2};
     if (!well_formed(degree, p, q))
-        return 3;
+        return (FenyurkaTValue){.refusal = 3};
     begin(&s, degree, p, q, invertible(p, q) ? 2 : 1);
     while (s.last < dimension)
-        value = next_t(&s);
-    *t = value;
-    return 0;
+        t = next_t(&s);
+    return (FenyurkaTValue){.t = t};
 }
 
 /* ---- pages */
@@ -280,62 +277,60 @@ static void walk(struct page *page, uint32_t left, uint32_t f1, uint32_t f0)
     walk(page, left - 1, f1 << 1 ^ f1 ^ f0, f1);
 }
 
-static uint32_t fill(struct page *page, uint32_t *rows, size_t length, size_t *count, uint32_t *more)
+static FenyurkaPage fill(struct page *page, uint32_t *rows, size_t length)
 {
     size_t width = page->top + 1;
     if (length < width)
-        return 7;
+        return (FenyurkaPage){.refusal = 7};
     page->rows = rows;
     page->room = length / width;
     walk(page, page->m, 1, 0);
     for (size_t i = 0; i < page->count; i++)
         rows[i * width + 2] = step_of(rows[i * width], rows[i * width + 1]);
-    *count = page->count;
-    *more = page->more;
-    return 0;
+    return (FenyurkaPage){.more = page->more, .count = page->count};
 }
 
-uint32_t fenyurka_first_page(uint32_t degree, uint32_t top, uint32_t *rows, size_t rows_length, size_t *count, uint32_t *more)
+static uint32_t list_refusal(FenyurkaList list)
 {
-    struct page page = {.m = degree, .top = top};
-    if (degree - 2 > MOST - 2)
-        return 1;
-    if (top - 3 > 5)
-        return 2;
-    return fill(&page, rows, rows_length, count, more);
+    return list.degree - 2 > MOST - 2 ? 1 : list.top - 3 > 5 ? 2 : 0;
 }
 
-uint32_t fenyurka_page_after(uint32_t degree, uint32_t top, uint32_t p, uint32_t q, uint32_t *rows, size_t rows_length,
-                             size_t *count, uint32_t *more)
+FenyurkaPage fenyurka_first_page(FenyurkaList list, uint32_t *rows, size_t rows_length)
 {
-    struct page page = {.m = degree, .top = top, .after = 1, .position = {p, q}};
-    struct search s;
-    if (degree - 2 > MOST - 2)
-        return 1;
-    if (top - 3 > 5)
-        return 2;
-    uint32_t refusal = refusal_of(degree, p, q);
+    struct page page = {.m = list.degree, .top = list.top};
+    uint32_t refusal = list_refusal(list);
     if (refusal != 0)
-        return refusal;
-    begin(&s, degree, p, q, 2);
+        return (FenyurkaPage){.refusal = refusal};
+    return fill(&page, rows, rows_length);
+}
+
+FenyurkaPage fenyurka_page_after(FenyurkaList list, uint32_t p, uint32_t q, uint32_t *rows, size_t rows_length)
+{
+    struct page page = {.m = list.degree, .top = list.top, .after = 1, .position = {p, q}};
+    struct search s;
+    uint32_t refusal = list_refusal(list);
+    if (refusal == 0)
+        refusal = refusal_of(list.degree, p, q);
+    if (refusal != 0)
+        return (FenyurkaPage){.refusal = refusal};
+    begin(&s, list.degree, p, q, 2);
     next_t(&s);
-    for (uint32_t d = 3; d <= top; d++)
+    for (uint32_t d = 3; d <= list.top; d++)
         page.position[d] = next_t(&s);
-    return fill(&page, rows, rows_length, count, more);
+    return fill(&page, rows, rows_length);
 }
 
 /* ---- points */
 
-uint32_t fenyurka_points(uint32_t degree, uint32_t p, uint32_t q, uint32_t first, uint32_t *words, size_t words_length,
-                         size_t *count)
+FenyurkaPoints fenyurka_points(uint32_t degree, uint32_t p, uint32_t q, uint32_t first, uint32_t *words, size_t words_length)
 {
     if (degree - 2 > MOST - 2)
-        return 1;
+        return (FenyurkaPoints){.refusal = 1};
     uint32_t refusal = refusal_of(degree, p, q), period = (1u << degree) - 1;
     if (refusal != 0)
-        return refusal;
+        return (FenyurkaPoints){.refusal = refusal};
     if (first >= period)
-        return 8;
+        return (FenyurkaPoints){.refusal = 8};
     uint32_t x = first == 0 ? 1 : power(degree, p, q, first);
     size_t n = words_length < period - first ? words_length : period - first;
     for (size_t i = 0; i < n; i++) {
@@ -348,6 +343,5 @@ uint32_t fenyurka_points(uint32_t degree, uint32_t p, uint32_t q, uint32_t first
         words[i] = word;
         x = times(degree, p, q, x);
     }
-    *count = n;
-    return 0;
+    return (FenyurkaPoints){.count = n};
 }

@@ -48,72 +48,79 @@ static void draw(uint32_t *seed, uint32_t *p, uint32_t *q)
 
 static void pages(void)
 {
-    size_t count;
-    uint32_t more;
+    FenyurkaList asked = {.degree = degree, .top = TOP};
     mark();
-    if (fenyurka_first_page(degree, TOP, list, sizeof list / sizeof list[0], &rows, &more) != 0 || more)
+    FenyurkaPage page = fenyurka_first_page(asked, list, sizeof list / sizeof list[0]);
+    if (page.refusal != 0 || page.more)
         wrong("whole list");
     measured("page: whole list, T = 8", 1);
+    rows = page.count;
     mark();
-    if (fenyurka_first_page(degree, TOP, room, 50 * WIDTH, &count, &more) != 0)
+    if (fenyurka_first_page(asked, room, 50 * WIDTH).refusal != 0)
         wrong("first page");
     measured("page: first of 50 rows, T = 8", 1);
     mark();
-    if (fenyurka_first_page(degree, 5, room, 50 * 6, &count, &more) != 0)
+    if (fenyurka_first_page((FenyurkaList){.degree = degree, .top = 5}, room, 50 * 6).refusal != 0)
         wrong("first page");
     measured("page: first of 50 rows, T = 5", 1);
     const uint32_t *middle = list + rows / 2 * WIDTH;
     mark();
-    if (fenyurka_page_after(degree, TOP, middle[0], middle[1], room, 50 * WIDTH, &count, &more) != 0)
+    if (fenyurka_page_after(asked, middle[0], middle[1], room, 50 * WIDTH).refusal != 0)
         wrong("page after");
     measured("page: 50 rows from the middle, T = 8", 1);
 }
 
 static void judging(void)
 {
-    uint32_t step = 0, p, q, seed = 1;
+    uint32_t p, q, seed = 1;
     size_t n = rows < SAMPLE ? rows : SAMPLE;
     mark();
-    for (size_t k = 0; k < n; k++)
-        if (fenyurka_judge(degree, sample(k)[0], sample(k)[1], &step) != 0 || step != sample(k)[2])
+    for (size_t k = 0; k < n; k++) {
+        FenyurkaJudgement judgement = fenyurka_judge(degree, sample(k)[0], sample(k)[1]);
+        if (judgement.refusal != 0 || judgement.step != sample(k)[2])
             wrong("judging");
+    }
     measured("judging an accepted pair", n);
     mark();
     for (int k = 0; k < 1000; k++) {
         draw(&seed, &p, &q);
-        sink = fenyurka_judge(degree, p, q, &step);
+        sink = fenyurka_judge(degree, p, q).refusal;
     }
     measured("judging any pair", 1000);
 }
 
 static void t_values(void)
 {
-    uint32_t t = 0, p, q, seed = 2;
+    uint32_t p, q, seed = 2;
     size_t n = rows < SAMPLE ? rows : SAMPLE;
     for (uint32_t s = 5; s <= 8; s += 3) {
         mark();
-        for (size_t k = 0; k < n; k++)
-            if (fenyurka_t_value(degree, sample(k)[0], sample(k)[1], s, &t) != 0 || t != sample(k)[s])
+        for (size_t k = 0; k < n; k++) {
+            FenyurkaTValue value = fenyurka_t_value(degree, sample(k)[0], sample(k)[1], s);
+            if (value.refusal != 0 || value.t != sample(k)[s])
                 wrong("t-value");
+        }
         measured(s == 5 ? "t(5) of an accepted pair" : "t(8) of an accepted pair", n);
     }
     mark();
     for (int k = 0; k < SAMPLE; k++) {
         draw(&seed, &p, &q);
-        sink = fenyurka_t_value(degree, p, q, 8, &t);
+        sink = fenyurka_t_value(degree, p, q, 8).t;
     }
     measured("t(8) of any pair", SAMPLE);
 }
 
 static void points(void)
 {
-    size_t count = 0, period = ((size_t)1 << degree) - 1;
+    size_t period = ((size_t)1 << degree) - 1;
     mark();
-    if (fenyurka_points(degree, list[0], list[1], 0, room, PERIOD + 1, &count) != 0 || count != period)
+    FenyurkaPoints words = fenyurka_points(degree, list[0], list[1], 0, room, PERIOD + 1);
+    if (words.refusal != 0 || words.count != period)
         wrong("points");
     measured("points: a word of the whole period", period);
     mark();
-    if (fenyurka_points(degree, list[0], list[1], (uint32_t)period / 2, room, 1, &count) != 0 || count != 1)
+    words = fenyurka_points(degree, list[0], list[1], (uint32_t)period / 2, room, 1);
+    if (words.refusal != 0 || words.count != 1)
         wrong("points");
     measured("points: one word amid the period", 1);
 }
@@ -144,20 +151,25 @@ static void write_catalogue(void)
 
 static void catalogue(void)
 {
-    uint32_t entries = 0, top, count, row[WIDTH];
-    size_t offset, place = 0, read = 0;
+    size_t read = 0;
     write_catalogue();
     mark();
-    if (fenyurka_open(file, length, &entries) != 0 || entries != 1)
+    FenyurkaCatalogue opened = fenyurka_open(file, length);
+    if (opened.refusal != 0 || opened.entries != 1)
         wrong("opening");
     measured("opening a catalogue, a row of it", rows);
     mark();
-    if (fenyurka_lookup(file, length, degree, &top, &count, &offset) != 0 || count != rows)
+    FenyurkaBody body = fenyurka_lookup(file, length, degree);
+    if (body.refusal != 0 || body.rows != rows)
         wrong("lookup");
     measured("looking a degree up, a row of it", rows);
+    FenyurkaList asked = {.degree = degree, .top = body.top};
     mark();
-    while (fenyurka_row(file + offset, length - offset, degree, top, place, row, WIDTH, &place) == 0)
+    FenyurkaRow row = fenyurka_row(asked, file + body.offset, body.length, 0);
+    while (row.count > 0) {
         read++;
+        row = fenyurka_row(asked, file + body.offset, body.length, row.next);
+    }
     measured("reading a row", rows);
     if (read != rows)
         wrong("reading");

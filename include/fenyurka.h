@@ -1,20 +1,28 @@
 /*
- * Fenyurka from C and C++: short-period Tausworthe generators over F_2, judged, ranked, written out and read from catalogues.
+ * Fenyurka for C and C++: judges, ranks and writes out short-period Tausworthe generators over F_2, and reads catalogues of them.
  *
- * A polynomial is a number, bit i being the coefficient of x^i: 11 is x^3 + x + 1. A generator is a pair (p, q), p of degree m
- * (2 to 16) and 1 <= q < 2^m. Any 32-bit number may be given for any number; nothing has to be checked before a call.
+ * Proved for every input: each function returns, and its result and every element of a buffer equal the definition
+ * (crates/definitions, and for the structs crates/results/specs and crates/interface/specs).
  *
- * Every function but fenyurka_row returns the number of a refusal, 0 where there is none; where several apply, the lowest. A
- * refusal writes nothing: not into a slice, and not through a pointer to an answer. What is said to be written is all that is
- * written: each element of a slice behind it stays as it was.
+ * Polynomials are numbers: bit i is the coefficient of x^i, so 11 is x^3 + x + 1. A generator is a pair (p, q) with p of degree
+ * m (2 to 16) and 1 <= q < 2^m. You need not check numbers before a call: any 32-bit value is allowed for any number.
  *
- * A slice is two arguments, a pointer and a length in elements. The caller owns the memory, and owes this much:
- *   - a slice's pointer is good for its length, a pointer to an answer for one number, each aligned for its type;
- *   - no pointer is NULL, not even that of a slice of length 0, through which nothing is read or written;
- *   - whatever a call may write (answers, slices of uint32_t) overlaps nothing else that is given to it.
- * No function keeps a pointer, allocates, prints or has state: calls on memory of their own may run at the same time.
+ * Results. Every function returns a struct by value. Its field `refusal` is 0, or the number of a refusal (enum fenyurka_refusal);
+ * where several refusals apply it is the lowest. All other fields are 0 when the call is refused. fenyurka_row has no refusals.
  *
- * Link with the archive that `rt staticlib interface` writes (x86-64). Nothing checks these declarations against its source.
+ * Buffers. A buffer is two parameters, a pointer and a length in elements. A refused call writes nothing; any other call writes
+ * only what its comment says, from the front of the buffer, and leaves the elements behind that unchanged. The caller must pass
+ *   - a pointer that is valid for the length and aligned for its type;
+ *   - a non-NULL pointer, also for length 0 (nothing is read or written then);
+ *   - a writable buffer that overlaps no other buffer of the call.
+ *
+ * Initialise FenyurkaList by field names: FenyurkaList list = {.degree = 10, .top = 5}. Later versions may add fields to structs;
+ * programs written in this way then have to be recompiled, and not changed.
+ *
+ * No function allocates memory, keeps a pointer, prints or has state, so calls with different buffers may run in parallel.
+ * A call needs less than 16 KB of stack (measured by tests/c/stack.c: 10 KB for a page, 5 KB for fenyurka_points, 2 KB otherwise).
+ *
+ * Link with the archive that `rt staticlib interface` writes (x86-64 Linux). tests/c/declarations compares this file with its source.
  */
 #ifndef FENYURKA_H
 #define FENYURKA_H
@@ -26,7 +34,7 @@
 extern "C" {
 #endif
 
-/* The refusals. */
+/* Why a call is refused. */
 enum fenyurka_refusal {
     FENYURKA_WRONG_DEGREE = 1,         /* the degree is not 2 to 16 */
     FENYURKA_WRONG_DIMENSION = 2,      /* the top dimension is not 3 to 8; for a single t-value, the dimension is not 1 to 8 */
@@ -34,7 +42,7 @@ enum fenyurka_refusal {
     FENYURKA_NOT_PRIMITIVE = 4,        /* 2^m - 1 is not the smallest e >= 1 with x^e = 1 (mod p) */
     FENYURKA_QUOTIENT_NOT_LINEAR = 5,  /* p is primitive, and some partial quotient of q/p is not of degree one */
     FENYURKA_STEP_NOT_COPRIME = 6,     /* the step has a common factor with 2^m - 1 */
-    FENYURKA_SHORT_SLICE = 7,          /* the slice is shorter than a row */
+    FENYURKA_SHORT_SLICE = 7,          /* the buffer is shorter than a row */
     FENYURKA_BEYOND_PERIOD = 8,        /* the first index is above 2^m - 2 */
     FENYURKA_ILL_FORMED_CATALOGUE = 9, /* the bytes are not a catalogue */
     FENYURKA_DEGREE_MISSING = 10       /* the catalogue has no such degree */
@@ -43,72 +51,110 @@ enum fenyurka_refusal {
 /* The most numbers that a row has: p, q, the step, t(3) .. t(8). */
 #define FENYURKA_LONGEST_ROW 9
 
-/*
- * Judges the pair (p, q) of this degree. *step is the s with x^s = q (mod p) and 0 < s < 2^m - 1.
- * Refuses 1, 3, 4, 5, 6.
- */
-uint32_t fenyurka_judge(uint32_t degree, uint32_t p, uint32_t q, uint32_t *step);
+/* Which ranked list is meant. */
+typedef struct FenyurkaList {
+    uint32_t degree; /* 2 to 16 */
+    uint32_t top;    /* the top dimension T, 3 to 8 */
+} FenyurkaList;
+
+typedef struct FenyurkaJudgement {
+    uint32_t refusal;
+    uint32_t step; /* the s with x^s = q (mod p) and 0 < s < 2^m - 1 */
+} FenyurkaJudgement;
 
 /*
- * *t is the t-value in this dimension of the pair's point set (for every h of degree below m the digits of h q^j mod p over p,
+ * Judges the pair (p, q) of this degree.
+ * Refusals: 1, 3, 4, 5, 6.
+ */
+FenyurkaJudgement fenyurka_judge(uint32_t degree, uint32_t p, uint32_t q);
+
+typedef struct FenyurkaTValue {
+    uint32_t refusal;
+    uint32_t t;
+} FenyurkaTValue;
+
+/*
+ * The t-value in this dimension of the pair's point set (for every h of degree below m the digits of h q^j mod p over p,
  * j = 0 .. dimension - 1): the smallest t in 0 .. m such that for every way to share m - t digits among the coordinates, and
  * every choice of those leading digits, exactly 2^t points have them. For every well-formed pair, accepted by fenyurka_judge or not.
- * Refuses 1, 2, 3.
+ * Refusals: 1, 2, 3.
  */
-uint32_t fenyurka_t_value(uint32_t degree, uint32_t p, uint32_t q, uint32_t dimension, uint32_t *t);
+FenyurkaTValue fenyurka_t_value(uint32_t degree, uint32_t p, uint32_t q, uint32_t dimension);
+
+typedef struct FenyurkaPage {
+    uint32_t refusal;
+    uint32_t more; /* 1 if the list has rows behind this page, else 0 */
+    size_t count;  /* how many rows were written (rows, not numbers) */
+} FenyurkaPage;
 
 /*
- * The first rows of the ranked list of this degree: all accepted pairs, ascending by t(3), then t(4), up to t(top), then by p,
- * then by q. A row is top + 1 numbers: p, q, the step, t(3) .. t(top). Written from the front of `rows` are as many as fit and
- * exist. *count is how many (rows, not numbers); *more is 1 where a further row exists, else 0.
- * Refuses 1, 2, 7.
+ * The first page of a ranked list. The list has all accepted pairs of the degree, ascending by t(3), then t(4), up to t(T), then
+ * by p, then by q. A row is T + 1 numbers: p, q, the step, t(3) .. t(T). As many rows are written as fit into the buffer and exist.
+ * Each page costs one search over all pairs of the degree, however many rows are written: with T = 8 and 50 rows 2.5 million
+ * instructions for degree 10 and 320 million for degree 16 (docs/SPEED.md). If you need the whole list, pass a buffer that holds it.
+ * Refusals: 1, 2, 7.
  */
-uint32_t fenyurka_first_page(uint32_t degree, uint32_t top, uint32_t *rows, size_t rows_length, size_t *count, uint32_t *more);
+FenyurkaPage fenyurka_first_page(FenyurkaList list, uint32_t *rows, size_t rows_length);
 
 /*
- * The same for the rows after the pair (p, q), which may be any accepted pair: the last of another page, of another length or
- * another top dimension, or one that no page has handed out.
- * Refuses 1, 2, 3, 4, 5, 6, 7.
+ * The page after the pair (p, q), which may be any accepted pair of the degree: the last one of the page before, also if that
+ * page had another length or another T, or a pair that was on no page. Costs as much as the first page.
+ * Refusals: 1, 2, 3, 4, 5, 6, 7.
  */
-uint32_t fenyurka_page_after(uint32_t degree, uint32_t top, uint32_t p, uint32_t q, uint32_t *rows, size_t rows_length,
-                             size_t *count, uint32_t *more);
+FenyurkaPage fenyurka_page_after(FenyurkaList list, uint32_t p, uint32_t q, uint32_t *rows, size_t rows_length);
+
+typedef struct FenyurkaPoints {
+    uint32_t refusal;
+    size_t count; /* how many words were written */
+} FenyurkaPoints;
 
 /*
  * The output of an accepted pair: X_0 = 1, X_i = q X_(i-1) mod p, and word i holds the first 32 digits of X_i / p in powers of
- * 1/x, the first digit as the highest bit. The period is 2^m - 1 words. Written are words first, first + 1, .. until the slice
- * or the period ends (nothing wraps round); *count is how many.
- * Refuses 1, 3, 4, 5, 6, 8; 8 for an empty slice too.
+ * 1/x, the first digit as the highest bit. The period is 2^m - 1 words. Words first, first + 1, .. are written until the buffer
+ * or the period ends; nothing wraps round.
+ * Refusals: 1, 3, 4, 5, 6, 8 (also if the buffer is empty).
  */
-uint32_t fenyurka_points(uint32_t degree, uint32_t p, uint32_t q, uint32_t first, uint32_t *words, size_t words_length,
-                         size_t *count);
+FenyurkaPoints fenyurka_points(uint32_t degree, uint32_t p, uint32_t q, uint32_t first, uint32_t *words, size_t words_length);
+
+typedef struct FenyurkaCatalogue {
+    uint32_t refusal;
+    uint32_t entries; /* how many degrees the catalogue has, 0 to 15 */
+} FenyurkaCatalogue;
 
 /*
- * Whether the bytes are a catalogue, all of it checked: contents, places of the bodies, ranges of the numbers in each row.
- * *entries is the number of degrees that it has, 0 to 15.
- * Refuses 9.
+ * Checks that the bytes are a catalogue: its contents, the place of every body and the range of every number in every row.
+ * Refusals: 9.
  */
-uint32_t fenyurka_open(const uint8_t *file, size_t length, uint32_t *entries);
+FenyurkaCatalogue fenyurka_open(const uint8_t *file, size_t file_length);
+
+typedef struct FenyurkaBody {
+    uint32_t refusal;
+    uint32_t top;      /* the top dimension T of the rows */
+    uint32_t rows;     /* how many rows the body has, 0 or more */
+    uint32_t row_size; /* bytes of a row */
+    size_t offset;     /* where the body begins in the file */
+    size_t length;     /* bytes of the body, rows * row_size; all of them lie within the file */
+} FenyurkaBody;
 
 /*
- * Looks a degree up in a catalogue. *top is its top dimension, *rows its row count, *offset the place of its body in the file:
- * the body is the *rows * (*top + 4) bytes from file + *offset on, all of them within the file. A body may have no rows.
- * Refuses 1, 9, 10.
+ * Looks a degree up in a catalogue, after checking the file as fenyurka_open does.
+ * Refusals: 1, 9, 10.
  */
-uint32_t fenyurka_lookup(const uint8_t *file, size_t length, uint32_t degree, uint32_t *top, uint32_t *rows, size_t *offset);
+FenyurkaBody fenyurka_lookup(const uint8_t *file, size_t file_length, uint32_t degree);
+
+typedef struct FenyurkaRow {
+    size_t count;                           /* how many numbers the row has, T + 1; 0 at the end */
+    size_t next;                            /* the place behind the row; at the end the place that was given */
+    uint32_t numbers[FENYURKA_LONGEST_ROW]; /* p with its leading term, q, the step, t(3) .. t(T); 0 behind these */
+} FenyurkaRow;
 
 /*
- * Reads one row of a body, given by itself (as fenyurka_lookup found it: file + offset, and its length in bytes) with its degree
- * and top dimension. `place` is a byte offset into the body: 0 for the first row, then each time what *next was.
- *
- * The result is NOT the number of a refusal:
- *   0  a row was read: top + 1 numbers are written from the front of `row` (p with its leading term, q, the step, t(3) ..
- *      t(top)), and *next is the place behind it;
- *   1  the end: degree or top dimension is out of range, or `place` is not the start of a whole row. Nothing is written;
- *   7  there is a row, but `row` is shorter than top + 1 numbers. Nothing is written. FENYURKA_LONGEST_ROW numbers always do.
- * The bytes are handed out as they stand; that they have the form of a catalogue is checked by fenyurka_open and fenyurka_lookup.
+ * Reads one row of a body. `body` are the bytes that fenyurka_lookup found (file + offset, length), `list` their degree and top
+ * dimension. `place` is a byte offset into the body: 0 for the first row, then `next` of the row before.
+ * The end is reached, and count is 0, where `place` is not the start of a whole row, or degree or top dimension is out of range.
+ * The numbers are given as they stand in the file; fenyurka_open and fenyurka_lookup check their ranges.
  */
-uint32_t fenyurka_row(const uint8_t *body, size_t length, uint32_t degree, uint32_t top, size_t place, uint32_t *row,
-                      size_t row_length, size_t *next);
+FenyurkaRow fenyurka_row(FenyurkaList list, const uint8_t *body, size_t body_length, size_t place);
 
 #ifdef __cplusplus
 }

@@ -1,4 +1,5 @@
-/* One call of the library at a time, held against the reference: every answer, every number of a slice, every number around it. */
+/* One call of the library at a time, compared with the reference: every field of a result, every number of a buffer, every number
+   around it. */
 #include "calls.h"
 #include "fenyurka.h"
 #include "reference.h"
@@ -11,9 +12,10 @@
 
 /* ---- what is compared, and chance */
 
-enum call { JUDGE, T_VALUE, FIRST_PAGE, PAGE_AFTER, WALK, POINTS, OPEN, LOOKUP, ROW, CALLS };
+enum call { JUDGE, T_VALUE, FIRST_PAGE, PAGE_AFTER, WALK, POINTS, OPEN, LOOKUP, ROW, END, CALLS };
 static const char *const names[CALLS] = {
     "judgements", "t-values", "first pages", "pages after a pair", "walks to the end", "points", "openings", "lookups", "rows read",
+    "ends of bodies",
 };
 /* How often each was answered with each number, and how often it differed. */
 static unsigned long answered[CALLS][11], differing;
@@ -95,50 +97,29 @@ static uint8_t *fenced(const uint8_t *bytes, size_t length)
 
 /* ---- one call each */
 
-/* An answer between two neighbours. */
-static const uint32_t marks[3] = {0xC0FFEE01, 0xC0FFEE02, 0xC0FFEE03};
-
-static int cells_are(const uint32_t *cells, uint32_t refusal, uint32_t answer)
-{
-    return cells[0] == marks[0] && cells[1] == (refusal ? marks[1] : answer) && cells[2] == marks[2];
-}
-
-static const size_t places[3] = {0xC0FFEE11, 0xC0FFEE12, 0xC0FFEE13};
-
-static int sizes_are(const size_t *sizes, uint32_t refusal, size_t answer)
-{
-    return sizes[0] == places[0] && sizes[1] == (refusal ? places[1] : answer) && sizes[2] == places[2];
-}
-
 void try_judge(uint32_t m, uint32_t p, uint32_t q)
 {
-    uint32_t step = 0, cells[3], refusal = reference_judge(m, p, q, &step);
-    memcpy(cells, marks, sizeof cells);
-    uint32_t got = fenyurka_judge(m, p, q, &cells[1]);
-    SAME(JUDGE, refusal, got == refusal && cells_are(cells, refusal, step), m, p, q);
+    uint32_t step = 0, refusal = reference_judge(m, p, q, &step);
+    FenyurkaJudgement got = fenyurka_judge(m, p, q);
+    SAME(JUDGE, refusal, got.refusal == refusal && got.step == step, m, p, q);
 }
 
 void try_t_value(uint32_t m, uint32_t p, uint32_t q, uint32_t dimension)
 {
-    uint32_t t = 0, cells[3], refusal = reference_t_value(m, p, q, dimension, &t);
-    memcpy(cells, marks, sizeof cells);
-    uint32_t got = fenyurka_t_value(m, p, q, dimension, &cells[1]);
-    SAME(T_VALUE, refusal, got == refusal && cells_are(cells, refusal, t), m, p, q, dimension);
+    uint32_t t = 0, refusal = reference_t_value(m, p, q, dimension, &t);
+    FenyurkaTValue got = fenyurka_t_value(m, p, q, dimension);
+    SAME(T_VALUE, refusal, got.refusal == refusal && got.t == t, m, p, q, dimension);
 }
 
 void try_page(uint32_t m, uint32_t top, int after, uint32_t p, uint32_t q, size_t length)
 {
     const uint32_t *rows = arena;
-    uint32_t more = 0, cells[3], *slice = slice_of(length), got;
-    size_t count = 0, sizes[3];
+    uint32_t more = 0, *slice = slice_of(length);
+    size_t count = 0;
     uint32_t refusal = reference_page(m, top, after, p, q, length, &rows, &count, &more);
-    memcpy(cells, marks, sizeof cells);
-    memcpy(sizes, places, sizeof sizes);
-    if (after)
-        got = fenyurka_page_after(m, top, p, q, slice, length, &sizes[1], &cells[1]);
-    else
-        got = fenyurka_first_page(m, top, slice, length, &sizes[1], &cells[1]);
-    int agrees = got == refusal && cells_are(cells, refusal, more) && sizes_are(sizes, refusal, count)
+    FenyurkaList list = {.degree = m, .top = top};
+    FenyurkaPage got = after ? fenyurka_page_after(list, p, q, slice, length) : fenyurka_first_page(list, slice, length);
+    int agrees = got.refusal == refusal && got.more == more && got.count == count
                  && slice_is(rows, refusal ? 0 : count * (top + 1), length);
     SAME(after ? PAGE_AFTER : FIRST_PAGE, refusal, agrees, m, top, p, q, length);
 }
@@ -146,71 +127,64 @@ void try_page(uint32_t m, uint32_t top, int after, uint32_t p, uint32_t q, size_
 void try_points(uint32_t m, uint32_t p, uint32_t q, uint32_t first, size_t length)
 {
     static uint32_t words[LONGEST];
-    size_t count = 0, sizes[3];
+    size_t count = 0;
     uint32_t *slice = slice_of(length), refusal = reference_points(m, p, q, first, words, length, &count);
-    memcpy(sizes, places, sizeof sizes);
-    uint32_t got = fenyurka_points(m, p, q, first, slice, length, &sizes[1]);
-    int agrees = got == refusal && sizes_are(sizes, refusal, count) && slice_is(words, count, length);
+    FenyurkaPoints got = fenyurka_points(m, p, q, first, slice, length);
+    int agrees = got.refusal == refusal && got.count == count && slice_is(words, count, length);
     SAME(POINTS, refusal, agrees, m, p, q, first, length);
 }
 
 void try_open(const uint8_t *bytes, size_t length)
 {
-    uint32_t entries = 0, cells[3], refusal = reference_open(bytes, length, &entries);
+    uint32_t entries = 0, refusal = reference_open(bytes, length, &entries);
     const uint8_t *file = fenced(bytes, length);
-    memcpy(cells, marks, sizeof cells);
-    uint32_t got = fenyurka_open(file, length, &cells[1]);
-    int agrees = got == refusal && cells_are(cells, refusal, entries) && memcmp(file, bytes, length) == 0;
-    SAME(OPEN, refusal, agrees, length);
+    FenyurkaCatalogue got = fenyurka_open(file, length);
+    SAME(OPEN, refusal, got.refusal == refusal && got.entries == entries && memcmp(file, bytes, length) == 0, length);
 }
 
 void try_lookup(const uint8_t *bytes, size_t length, uint32_t m)
 {
-    uint32_t top = 0, rows = 0, tops[3], counts[3];
-    size_t offset = 0, sizes[3];
-    uint32_t refusal = reference_lookup(bytes, length, m, &top, &rows, &offset);
+    struct reference_body body = {0};
+    uint32_t refusal = reference_lookup(bytes, length, m, &body);
     const uint8_t *file = fenced(bytes, length);
-    memcpy(tops, marks, sizeof tops);
-    memcpy(counts, marks, sizeof counts);
-    memcpy(sizes, places, sizeof sizes);
-    uint32_t got = fenyurka_lookup(file, length, m, &tops[1], &counts[1], &sizes[1]);
-    int agrees = got == refusal && cells_are(tops, refusal, top) && cells_are(counts, refusal, rows)
-                 && sizes_are(sizes, refusal, offset) && memcmp(file, bytes, length) == 0;
+    FenyurkaBody got = fenyurka_lookup(file, length, m);
+    int agrees = got.refusal == refusal && got.top == body.top && got.rows == body.rows && got.row_size == body.row_size
+                 && got.offset == body.offset && got.length == body.length && memcmp(file, bytes, length) == 0;
     SAME(LOOKUP, refusal, agrees, length, m);
 }
 
-uint32_t try_row(const uint8_t *bytes, size_t length, uint32_t m, uint32_t top, size_t place, size_t row_length)
+int try_row(const uint8_t *bytes, size_t length, uint32_t m, uint32_t top, size_t place)
 {
-    uint32_t row[LONGEST_ROW], *slice = slice_of(row_length);
-    size_t next = 0, sizes[3];
+    uint32_t row[LONGEST_ROW] = {0};
+    size_t next = place;
     const uint8_t *body = fenced(bytes, length);
     int found = reference_row(bytes, length, m, top, place, row, &next);
-    uint32_t result = !found ? 1 : row_length < top + 1 ? 7 : 0;
-    memcpy(sizes, places, sizeof sizes);
-    uint32_t got = fenyurka_row(body, length, m, top, place, slice, row_length, &sizes[1]);
-    int agrees = got == result && sizes_are(sizes, result, next) && slice_is(row, result ? 0 : top + 1, row_length);
-    SAME(ROW, result, agrees, length, m, top, place, row_length);
-    return result;
+    FenyurkaRow got = fenyurka_row((FenyurkaList){.degree = m, .top = top}, body, length, place);
+    int agrees = got.count == (found ? top + 1 : 0) && got.next == next && memcmp(got.numbers, row, sizeof row) == 0
+                 && memcmp(body, bytes, length) == 0;
+    SAME(found ? ROW : END, 0, agrees, length, m, top, place);
+    return found;
 }
 
 /* Walks from the start to the end by the library's own answers, with buffers of `least` to `most` rows: the joined rows are the list. */
 void try_walk(uint32_t m, uint32_t top, uint32_t least, uint32_t most)
 {
-    size_t all, count = 0, done = 0;
+    size_t all, done = 0;
     const uint32_t *list = reference_list(m, top, &all);
     uint32_t more = 1, p = 0, q = 0, width = top + 1;
     int agrees = 1;
     for (int after = 0; agrees && more; after = 1) {
         size_t length = (least + below(most - least + 1)) * width + below(width);
         uint32_t *rows = slice_of(length);
-        uint32_t refusal = after ? fenyurka_page_after(m, top, p, q, rows, length, &count, &more)
-                                 : fenyurka_first_page(m, top, rows, length, &count, &more);
-        agrees = refusal == 0 && done + count <= all && (count > 0 || !more)
-                 && memcmp(rows, list + done * width, count * width * sizeof rows[0]) == 0;
-        done += count;
-        if (count > 0) {
-            p = rows[(count - 1) * width];
-            q = rows[(count - 1) * width + 1];
+        FenyurkaList asked = {.degree = m, .top = top};
+        FenyurkaPage page = after ? fenyurka_page_after(asked, p, q, rows, length) : fenyurka_first_page(asked, rows, length);
+        agrees = page.refusal == 0 && done + page.count <= all && (page.count > 0 || !page.more)
+                 && memcmp(rows, list + done * width, page.count * width * sizeof rows[0]) == 0;
+        done += page.count;
+        more = page.more;
+        if (page.count > 0) {
+            p = rows[(page.count - 1) * width];
+            q = rows[(page.count - 1) * width + 1];
         }
     }
     SAME(WALK, 0, agrees && done == all, m, top, least, most);
@@ -220,7 +194,7 @@ void try_walk(uint32_t m, uint32_t top, uint32_t least, uint32_t most)
 
 int report(void)
 {
-    printf("%-20s %10s   of them refused or ended with 1 .. 10\n", "compared", "calls");
+    printf("%-20s %10s   of them refused with 1 .. 10\n", "compared", "calls");
     for (int c = 0; c < CALLS; c++) {
         unsigned long sum = 0;
         for (int a = 0; a <= 10; a++)

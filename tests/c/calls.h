@@ -1,4 +1,4 @@
-/* One call of the library at a time, held against the reference, with chance and counts. */
+/* One call of the library at a time, compared with the reference, with chance and counts. */
 #ifndef CALLS_H
 #define CALLS_H
 
@@ -25,7 +25,8 @@ void try_walk(uint32_t m, uint32_t top, uint32_t least, uint32_t most);
 void try_points(uint32_t m, uint32_t p, uint32_t q, uint32_t first, size_t length);
 void try_open(const uint8_t *bytes, size_t length);
 void try_lookup(const uint8_t *bytes, size_t length, uint32_t m);
-uint32_t try_row(const uint8_t *bytes, size_t length, uint32_t m, uint32_t top, size_t place, size_t row_length);
+/* Whether there is a row at the place. */
+int try_row(const uint8_t *bytes, size_t length, uint32_t m, uint32_t top, size_t place);
 
 /* Catalogues whole and damaged; readers over any bytes. */
 void catalogues(unsigned rounds);

@@ -53,17 +53,17 @@ static void read_all(size_t length)
 {
     try_open(file, length);
     for (uint32_t m = 0; m <= 18; m++) {
-        uint32_t top, rows;
-        size_t offset, place = 0;
+        struct reference_body body;
+        size_t place = 0;
         try_lookup(file, length, m);
-        if (reference_lookup(file, length, m, &top, &rows, &offset) != 0)
+        if (reference_lookup(file, length, m, &body) != 0)
             continue;
-        size_t size = (size_t)rows * (top + 4);
-        while (try_row(file + offset, size, m, top, place, LONGEST_ROW + below(4)) == 0)
-            place += top + 4;
-        try_row(file + offset, size, m, top, place, below(10));
+        const uint8_t *bytes = file + body.offset;
+        uint32_t size = (uint32_t)body.length;
+        while (try_row(bytes, size, m, body.top, place))
+            place += body.row_size;
         for (int i = 0; i < 4; i++)
-            try_row(file + offset, size - below((uint32_t)size + 1), near(m), top, (size_t)below((uint32_t)size + 3), below(11));
+            try_row(bytes, size - below(size + 1), near(m), body.top, below(size + 3));
     }
     for (int i = 0; i < EXTREMES; i++)
         try_lookup(file, length, extremes[i]);
@@ -139,6 +139,6 @@ void readers(unsigned rounds)
             m = extremes[below(EXTREMES)];
         if (below(10) == 0)
             top = extremes[below(EXTREMES)];
-        try_row(file, length, m, top, place, below(12));
+        try_row(file, length, m, top, place);
     }
 }

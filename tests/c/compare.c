@@ -1,4 +1,4 @@
-/* Holds the library, through its header, against the reference: which pairs, pages and points are compared. Prints what was
+/* Compares the library, through its header, with the reference: which pairs, pages and points are compared. Prints what was
    compared and how often; exit status 1 on any difference. An argument is the seed of the random part. */
 #include "calls.h"
 #include "reference.h"

@@ -1,4 +1,4 @@
-/* Holds the reference to figures printed elsewhere: the examples of document 01, and Tables 1 and 2 of document 001 for m = 10 to
+/* Compares the reference with figures printed elsewhere: the examples of document 01, and Tables 1 and 2 of document 001 for m = 10 to
    16, typed from their pages. Prints each comparison; exit status 1 where one fails that is not noted. */
 #include "reference.h"
 
@@ -80,17 +80,21 @@ static void catalogue(void)
         0x01, 0x03, 0x04, 0x00, 0x04, 0x00, 0x00, 0x00, 0x09, 0, 3, 0, 4, 0, 2, 1, 1, 0, 3, 0, 7, 0, 5, 1, 1,
         0,    5,    0,    5,    0,    3,    1,    1,    0,    5, 0, 7, 0, 4, 1, 1,
     };
-    uint32_t entries = 99, top = 0, rows = 0, row[LONGEST_ROW];
-    size_t offset = 0, place = 0, count;
+    uint32_t entries = 99, row[LONGEST_ROW];
+    struct reference_body body = {0};
+    size_t place = 0, count;
     const uint32_t *list = reference_list(3, 4, &count);
     hold("open", reference_open(file, sizeof file, &entries), 0);
     hold("entries", entries, 1);
-    hold("lookup", reference_lookup(file, sizeof file, 3, &top, &rows, &offset), 0);
-    for (uint32_t r = 0; r < rows; r++) {
-        hold("row", (uint32_t)reference_row(file + offset, sizeof file - offset, 3, top, place, row, &place), 1);
+    hold("lookup", reference_lookup(file, sizeof file, 3, &body), 0);
+    hold("row size", body.row_size, 8);
+    hold("offset", (uint32_t)body.offset, 9);
+    hold("length", (uint32_t)body.length, 32);
+    for (uint32_t r = 0; r < body.rows; r++) {
+        hold("row", (uint32_t)reference_row(file + body.offset, body.length, 3, body.top, place, row, &place), 1);
         hold("row's numbers", memcmp(row, list + 5 * r, 5 * sizeof row[0]) != 0, 0);
     }
-    hold("end", (uint32_t)reference_row(file + offset, sizeof file - offset, 3, top, place, row, &place), 0);
+    hold("end", (uint32_t)reference_row(file + body.offset, body.length, 3, body.top, place, row, &place), 0);
 }
 
 /* A line of Table 1: m, its coefficients lowest first, the step; and of Table 2: t(2) .. t(8). */

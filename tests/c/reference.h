@@ -1,4 +1,4 @@
-/* Document 01 in plain C, slow and literal: what the library is held against. Shares nothing with it, not the header either. */
+/* Document 01 in plain C, slow and literal: what the library is compared with. Shares nothing with it, not the header either. */
 #ifndef REFERENCE_H
 #define REFERENCE_H
 
@@ -36,7 +36,13 @@ uint32_t reference_page(uint32_t degree, uint32_t top, int after, uint32_t p, ui
 uint32_t reference_points(uint32_t degree, uint32_t p, uint32_t q, uint32_t first, uint32_t *words, size_t slice, size_t *count);
 
 uint32_t reference_open(const uint8_t *file, size_t length, uint32_t *entries);
-uint32_t reference_lookup(const uint8_t *file, size_t length, uint32_t degree, uint32_t *top, uint32_t *rows, size_t *offset);
+
+/* The body of a degree: its top dimension, its rows and the bytes of one, where it begins in the file and its bytes. */
+struct reference_body {
+    uint32_t top, rows, row_size;
+    size_t offset, length;
+};
+uint32_t reference_lookup(const uint8_t *file, size_t length, uint32_t degree, struct reference_body *body);
 
 /* 1 where a reader has a row at the place, which is then in `row`, top + 1 numbers; 0 at the end. */
 int reference_row(const uint8_t *body, size_t length, uint32_t degree, uint32_t top, size_t place, uint32_t *row, size_t *next);

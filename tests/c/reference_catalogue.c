@@ -47,7 +47,7 @@ uint32_t reference_open(const uint8_t *file, size_t length, uint32_t *entries)
     return 0;
 }
 
-uint32_t reference_lookup(const uint8_t *file, size_t length, uint32_t m, uint32_t *top, uint32_t *rows, size_t *offset)
+uint32_t reference_lookup(const uint8_t *file, size_t length, uint32_t m, struct reference_body *body)
 {
     uint32_t entries;
     if (!lawful_degree(m))
@@ -57,9 +57,11 @@ uint32_t reference_lookup(const uint8_t *file, size_t length, uint32_t m, uint32
     for (uint32_t i = 0; i < entries; i++) {
         const uint8_t *entry = file + 1 + 8 * i;
         if (entry[0] == m) {
-            *top = entry[1];
-            *rows = number_at(entry, 2, 2);
-            *offset = number_at(entry, 4, 4);
+            body->top = entry[1];
+            body->rows = number_at(entry, 2, 2);
+            body->row_size = 2 + 2 + 2 + (body->top - LEAST_TOP + 1);
+            body->offset = number_at(entry, 4, 4);
+            body->length = (size_t)body->rows * body->row_size;
             return 0;
         }
     }

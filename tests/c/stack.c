@@ -1,0 +1,109 @@
+/* How much stack each call takes: it runs on a stack of its own that was filled with a pattern, and the bytes that no longer hold it
+   are counted. Prints the most for each call, over the degrees 2 to 16; exit status 1 where a call takes more than the header says. */
+#define _XOPEN_SOURCE 700
+#include "fenyurka.h"
+
+#include <stdio.h>
+#include <string.h>
+#include <ucontext.h>
+
+enum { STACK = 1 << 20, PATTERN = 0xA5, STATED = 16384, MOST_ROWS = 3000, TOP = 8, WIDTH = TOP + 1 };
+
+static unsigned char stack[STACK] __attribute__((aligned(64)));
+static ucontext_t here, there;
+
+/* Runs the call on the patterned stack; how many bytes it changed. */
+static size_t taken_by(void (*call)(void))
+{
+    size_t untouched = 0;
+    memset(stack, PATTERN, sizeof stack);
+    getcontext(&there);
+    there.uc_stack.ss_sp = stack;
+    there.uc_stack.ss_size = sizeof stack;
+    there.uc_link = &here;
+    makecontext(&there, call, 0);
+    swapcontext(&here, &there);
+    while (untouched < STACK && stack[untouched] == PATTERN)
+        untouched++;
+    return STACK - untouched;
+}
+
+static FenyurkaList list = {.top = TOP};
+static uint32_t rows[MOST_ROWS * WIDTH], room[1 << 16];
+static size_t count;
+/* Document 01's catalogue of degree 3, T = 4. */
+static const uint8_t file[41] = {
+    1, 3, 4, 0, 4, 0, 0, 0, 9, 0, 3, 0, 4, 0, 2, 1, 1, 0, 3, 0, 7, 0, 5, 1, 1, 0, 5, 0, 5, 0, 3, 1, 1, 0, 5, 0, 7, 0, 4, 1, 1,
+};
+static volatile uint32_t sink;
+
+static void nothing(void)
+{
+}
+
+static void first_page(void)
+{
+    count = fenyurka_first_page(list, rows, sizeof rows / sizeof rows[0]).count;
+}
+
+static void page_after(void)
+{
+    const uint32_t *middle = rows + count / 2 * WIDTH;
+    sink = fenyurka_page_after(list, middle[0], middle[1], room, 50 * WIDTH).more;
+}
+
+static void judge(void)
+{
+    sink = fenyurka_judge(list.degree, rows[0], rows[1]).step;
+}
+
+static void t_value(void)
+{
+    sink = fenyurka_t_value(list.degree, rows[0], rows[1], TOP).t;
+}
+
+static void points(void)
+{
+    sink = (uint32_t)fenyurka_points(list.degree, rows[0], rows[1], 0, room, sizeof room / sizeof room[0]).count;
+}
+
+static void open(void)
+{
+    sink = fenyurka_open(file, sizeof file).entries;
+}
+
+static void lookup(void)
+{
+    sink = fenyurka_lookup(file, sizeof file, 3).rows;
+}
+
+static void row(void)
+{
+    sink = fenyurka_row((FenyurkaList){.degree = 3, .top = 4}, file + 9, sizeof file - 9, 0).numbers[0];
+}
+
+/* first_page first: the others take their pairs from its rows. */
+static const struct {
+    const char *name;
+    void (*call)(void);
+} calls[] = {
+    {"fenyurka_first_page", first_page}, {"fenyurka_page_after", page_after}, {"fenyurka_judge", judge},   {"fenyurka_t_value", t_value},
+    {"fenyurka_points", points},         {"fenyurka_open", open},             {"fenyurka_lookup", lookup}, {"fenyurka_row", row},
+};
+enum { CALLS = sizeof calls / sizeof calls[0] };
+
+int main(void)
+{
+    size_t most[CALLS] = {0}, all = 0, none = taken_by(nothing);
+    for (list.degree = 2; list.degree <= 16; list.degree++)
+        for (int i = 0; i < CALLS; i++) {
+            size_t taken = taken_by(calls[i].call) - none;
+            most[i] = taken > most[i] ? taken : most[i];
+        }
+    for (int i = 0; i < CALLS; i++) {
+        printf("%-20s %6zu bytes\n", calls[i].name, most[i]);
+        all = most[i] > all ? most[i] : all;
+    }
+    printf("stack: at most %zu bytes, the header says %d\n", all, STATED);
+    return all > STATED;
+}
