@@ -2,8 +2,8 @@
 use Prim.Native.Nat.{_-_}
 use lib.ListN.{length}
 use borrow.Author.Needs.{needs}
-use Rattle.examples.proofs.output.equal.Statement.{statement}
-use Rattle.examples.proofs.output.equal.Tie as tie
+use Rattle.test_examples.proofs.output.equal.Statement.{statement}
+use Rattle.test_examples.proofs.output.equal.Tie as tie
 
 abbrev Inv-loop : tie.InvT-loop
 Inv-loop a b i₀ i = Unit {0}

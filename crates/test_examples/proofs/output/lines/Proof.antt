@@ -2,8 +2,8 @@
 use Prim.Native.Nat.{_-_}
 use lib.ListN.{length}
 use borrow.Author.Needs.{needs}
-use Rattle.examples.proofs.output.lines.Statement.{statement}
-use Rattle.examples.proofs.output.lines.Tie as tie
+use Rattle.test_examples.proofs.output.lines.Statement.{statement}
+use Rattle.test_examples.proofs.output.lines.Tie as tie
 use Rattle.io.proofs.print_hex.Reads as print-hex-reads
 
 abbrev Inv-loop : tie.InvT-loop

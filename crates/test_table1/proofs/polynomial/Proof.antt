@@ -1,7 +1,7 @@
 -- `table1::polynomial` is safe and ends: one coefficient less is left each turn. Assumes nothing.
 use borrow.Author.Needs.{needs}
-use Rattle.table1.proofs.polynomial.Statement.{statement}
-use Rattle.table1.proofs.polynomial.Tie as tie
+use Rattle.test_table1.proofs.polynomial.Statement.{statement}
+use Rattle.test_table1.proofs.polynomial.Tie as tie
 
 abbrev Inv-loop : tie.InvT-loop
 Inv-loop line from count left₀ value₀ left value = Unit {0}

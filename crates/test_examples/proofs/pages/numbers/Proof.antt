@@ -2,8 +2,8 @@
 use Prim.Native.Nat.{_-_}
 use lib.ListN.{length}
 use borrow.Author.Needs.{needs}
-use Rattle.examples.proofs.pages.numbers.Statement.{statement}
-use Rattle.examples.proofs.pages.numbers.Tie as tie
+use Rattle.test_examples.proofs.pages.numbers.Statement.{statement}
+use Rattle.test_examples.proofs.pages.numbers.Tie as tie
 
 abbrev Inv-loop : tie.InvT-loop
 Inv-loop slice i₀ t3 t4 i = Unit {0}

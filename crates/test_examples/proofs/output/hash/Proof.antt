@@ -3,8 +3,8 @@ use Prim.Native.Nat.{_-_, _<_, _^_}
 use native.Mathlib.Omega.{arith}
 use lib.ListN.{length}
 use borrow.Author.Needs.{needs}
-use Rattle.examples.proofs.output.hash.Statement.{statement}
-use Rattle.examples.proofs.output.hash.Tie as tie
+use Rattle.test_examples.proofs.output.hash.Statement.{statement}
+use Rattle.test_examples.proofs.output.hash.Tie as tie
 
 abbrev Inv-loop : tie.InvT-loop
 Inv-loop words sum₀ i₀ sum i = sum < 2 ^ 32
