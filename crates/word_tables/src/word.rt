@@ -1,11 +1,21 @@
-// One word.
+// One word: its state, and the digits of a state.
 ghost use mathlib.Core.Path.{_≡_};
 ghost use Prim.Native.Nat.{_^_, _<_};
-ghost use Rattle.definitions.specs.Points.{leading, wordDigits};
+ghost use Rattle.definitions.specs.Points.{state, leading, wordDigits};
 ghost use Rattle.number_laws.specs.Bounds.{LawfulDegree};
 ghost use Rattle.polynomial_laws.specs.Degree.{HasDegree};
+ghost use Rattle.fraction_laws.specs.WellFormed.{WellFormed};
 use generator::degrees;
 use polynomial::residues;
+
+// The state of word i: q to that power.
+pub fn state_at(m: u32, p: u32, q: u32, i: u32) -> u32
+    requires { ⌜ LawfulDegree m ⌝ }
+    requires { ⌜ WellFormed m p q ⌝ }
+    ensures { λ y. ⌜ (y ≡ state p q i) × (y < 2 ^ m) ⌝ }
+{
+    residues::pow_mod(q, i, p, degrees::leading_term(m))
+}
 
 const WORD_DIGITS: u32 = 32;
 

@@ -1,9 +1,9 @@
 // The words from an index on.
 ghost use mathlib.Core.Path.{_≡_};
-ghost use Prim.Native.Nat.{_^_, _<_, _≤_, min};
+ghost use Prim.Native.Nat.{_≤_, min};
 ghost use lib.ListN.{length};
 ghost use Rattle.definitions.specs.Number.{over};
-ghost use Rattle.definitions.specs.Points.{state, words};
+ghost use Rattle.definitions.specs.Points.{words};
 ghost use Rattle.number_laws.specs.Bounds.{LawfulDegree};
 ghost use Rattle.fraction_laws.specs.WellFormed.{WellFormed};
 use generator::degrees;
@@ -16,15 +16,6 @@ pub fn smaller(a: usize, b: usize) -> usize
     ensures { λ r. ⌜ r ≡ min a b ⌝ }
 {
     if a < b { a } else { b }
-}
-
-// The state of word i: q to that power.
-fn state_at(m: u32, p: u32, q: u32, i: u32) -> u32
-    requires { ⌜ LawfulDegree m ⌝ }
-    requires { ⌜ WellFormed m p q ⌝ }
-    ensures { λ y. ⌜ (y ≡ state p q i) × (y < 2 ^ m) ⌝ }
-{
-    residues::pow_mod(q, i, p, degrees::leading_term(m))
 }
 
 // From so many words on the tables cost less than they save.
@@ -52,7 +43,7 @@ fn write_few(m: u32, p: u32, q: u32, first: u32, count: usize, out: &mut [u32])
     ensures { λ r. ⌜ now (out .exit) ≡ over 0 (words p q first count) (now (out .entry)) ⌝ }
 {
     let lead = degrees::leading_term(m);
-    let mut y = state_at(m, p, q, first);
+    let mut y = word::state_at(m, p, q, first);
     let mut i: usize = 0;
     while i < count {
         out[i] = word::word_of(m, p, y);
@@ -68,7 +59,7 @@ fn write_many(m: u32, p: u32, q: u32, first: u32, count: usize, out: &mut [u32])
     requires { ⌜ count ≤ length (now out) ⌝ }
     ensures { λ r. ⌜ now (out .exit) ≡ over 0 (words p q first count) (now (out .entry)) ⌝ }
 {
-    let mut y = state_at(m, p, q, first);
+    let mut y = word::state_at(m, p, q, first);
     let mut next_low = [0u32; tables::SIZE];
     let mut word_low = [0u32; tables::SIZE];
     tables::fill(m, p, q, tables::LOWER_UNIT, &mut next_low, &mut word_low);

@@ -1,12 +1,12 @@
--- `words::writing::state_at` meets its contract: the states are the powers of q. Assumes nothing.
+-- `word_tables::word::state_at` meets its contract: the states are the powers of q. Assumes nothing.
 use mathlib.Core.Path.{sym, _∙_}
 use native.Mathlib.Omega.{arith}
 use borrow.Author.Needs.{needs}
 use Rattle.order_laws.specs.Cycle.{degree-big}
 use Rattle.order_laws.specs.State.{state-power}
 use Rattle.polynomial.specs.Modulus.{lawful-modulus}
-use Rattle.words.proofs.writing.state_at.Statement.{statement}
-use Rattle.words.proofs.writing.state_at.Tie as tie
+use Rattle.word_tables.proofs.word.state_at.Statement.{statement}
+use Rattle.word_tables.proofs.word.state_at.Tie as tie
 
 pow-mod-requires : tie.Need-pow-mod-requires
 pow-mod-requires c κs =
