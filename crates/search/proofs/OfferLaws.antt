@@ -42,18 +42,21 @@ module _ (f : Frame) (p q n : ℕ) (out w : List ℕ) (k : Keeping f n out) (b :
   pub kept-fit : n * widthOf f ≤ length out
   kept-fit = le-trans (mul-le-mul-right (widthOf f) (k .few)) (k .room)
 
+  whole : {v : ℕ} → v ≡ step (f .list .degree) p q → take (widthOf f) (set w 2 v) ≡ rowIn f p q
+  whole s = step-written (f .list) p q b (k .lawful .top .low) s
+
   -- The slot is that of the whole row.
   slot-known : {at : ℕ} → at ≡ slot rowKey (take (widthOf f) w) (rowsOf (widthOf f) n out) → at ≡ slot rowKey (rowIn f p q) (rowsOf (widthOf f) n out)
   slot-known e = e ∙ slot-by-key rowKey (take (widthOf f) w) (rowIn f p q) (rowsOf (widthOf f) n out) (key-known (f .list) p q b)
 
   pub slot-again : {at v : ℕ} → v ≡ step (f .list .degree) p q → at ≡ slot rowKey (take (widthOf f) w) (rowsOf (widthOf f) n out)
       → at ≡ slot rowKey (take (widthOf f) (set w 2 v)) (rowsOf (widthOf f) n out)
-  slot-again s e = slot-known e ∙ sym (ap (λ (r : List ℕ). slot rowKey r (rowsOf (widthOf f) n out)) (step-written (f .list) p q b (k .lawful .top .low) s))
+  slot-again s e = slot-known e ∙ sym (ap (λ (r : List ℕ). slot rowKey r (rowsOf (widthOf f) n out)) (whole s))
 
   pub inserted-row : {v : ℕ} {x : Kept} → v ≡ step (f .list .degree) p q
       → x ≡ inserted rowKey (widthOf f) (f .capacity) (take (widthOf f) (set w 2 v)) (record { out = out; n = n })
       → x ≡ inserted rowKey (widthOf f) (f .capacity) (rowIn f p q) (record { out = out; n = n })
-  inserted-row s e = e ∙ ap (λ (r : List ℕ). inserted rowKey (widthOf f) (f .capacity) r (record { out = out; n = n })) (step-written (f .list) p q b (k .lawful .top .low) s)
+  inserted-row s e = e ∙ ap (λ (r : List ℕ). inserted rowKey (widthOf f) (f .capacity) r (record { out = out; n = n })) (whole s)
 
   pub left-out : {at : ℕ} → at ≡ slot rowKey (take (widthOf f) w) (rowsOf (widthOf f) n out) → f .capacity ≤ at
       → _≡_ {A = Kept} (record { out = out; n = n }) (inserted rowKey (widthOf f) (f .capacity) (rowIn f p q) (record { out = out; n = n }))
@@ -85,8 +88,8 @@ module _ (f : Frame) (last : List ℕ) (s : Search) (p q : ℕ) where
     unfolding Weighed
     high-offered e =
         let h = weighed-as e in
-        offer-counted (h .0)
-        (inserted-none rowKey (widthOf f) (f .capacity) (rowIn f p q) (s .out) (s .n) (slot rowKey (rowIn f p q) (rowsOf (widthOf f) (s .n) (s .out))) refl (h .1) (omega (arith, h .1, h .2)))
+        let at = slot rowKey (rowIn f p q) (rowsOf (widthOf f) (s .n) (s .out)) in
+        offer-counted (h .0) (inserted-none rowKey (widthOf f) (f .capacity) (rowIn f p q) (s .out) (s .n) at refl (h .1) (omega (arith, h .1, h .2)))
 
     pub open-begun : x ≡ Open → Begun (f .list) p q w
     unfolding Weighed
@@ -111,7 +114,8 @@ module _ (f : Frame) (last : List ℕ) (s : Search) (p q : ℕ) where
   pair-not-coprime e =
       met-nothing (truth-false (accepted (f .list .degree) p q) (λ t. not-both (accepted-is (f .list .degree) p q .0 t .coprime) e))
 
-  pub pair-accepted : primitive (f .list .degree) p ≡ true → linearQuotients p q ≡ true → coprimeStep (f .list .degree) p q ≡ true → accepted (f .list .degree) p q ≡ true
+  pub pair-accepted : primitive (f .list .degree) p ≡ true → linearQuotients p q ≡ true → coprimeStep (f .list .degree) p q ≡ true
+      → accepted (f .list .degree) p q ≡ true
   pair-accepted a b c = accepted-is (f .list .degree) p q .1 (record { primitive-p = a; linear = b; coprime = c })
 
   pub pair-offered : {o : Search} → accepted (f .list .degree) p q ≡ true → o ≡ offer f last (rowIn f p q) s

@@ -110,7 +110,8 @@ module _ {w cap : ℕ} {at : Cut} {x : Search} (g : Good rowKey w cap at x) (ful
 
     pub behind-slot : cap ≤ slot rowKey r (rowsOf w (x .n) (x .out))
     behind-slot =
-        let up = slot-rows-up rowKey w r (x .out) (x .n) (x .n - 1) (omega (arith, full)) (g .order) (before-asym (rowKey (take w lastKept)) (rowKey r) behind) in
+        let not-before = before-asym (rowKey (take w lastKept)) (rowKey r) behind in
+        let up = slot-rows-up rowKey w r (x .out) (x .n) (x .n - 1) (omega (arith, full)) (g .order) not-before in
         omega (arith, full)
 
 -- ---- a pair's row, of which the first s numbers are written

@@ -39,15 +39,18 @@ module _ {left p q : ℕ} {f : Frame} {last : List ℕ} {s : Search} (r : Ready 
   -- ---- at a leaf
 
   module _ (z : left ≡ 0) where
+    some-degree : 1 ≤ f .list .degree
+    some-degree = omega (arith, r .searching .framed .lawful .degree .low)
+
     leaf-inside : List·Memᴰ (pair p q) (tree (f .list .degree))
     leaf-inside = r .inside (pair p q) (rw (z, pairsBelow-zero) (List·Memᴰ·head refl))
 
     pub leaf-well-formed : WellFormed (f .list .degree) p q
     leaf-well-formed =
-        wellFormed-is (f .list .degree) p q .0 (tree-sound (f .list .degree) (pair p q) (omega (arith, r .searching .framed .lawful .degree .low)) leaf-inside .well-formed)
+        wellFormed-is (f .list .degree) p q .0 (tree-sound (f .list .degree) (pair p q) some-degree leaf-inside .well-formed)
 
     pub leaf-linear : linearQuotients p q ≡ true
-    leaf-linear = tree-sound (f .list .degree) (pair p q) (omega (arith, r .searching .framed .lawful .degree .low)) leaf-inside .quotients
+    leaf-linear = tree-sound (f .list .degree) (pair p q) some-degree leaf-inside .quotients
 
     pub leaf-searching : Searching f last 1 s
     leaf-searching = record { framed = r .searching .framed; good = r .searching .good; few = rw z at (r .searching .few) }
@@ -68,7 +71,14 @@ module _ {left p q : ℕ} {f : Frame} {last : List ℕ} {s : Search} (r : Ready 
     halves : 2 ^ left ≡ 2 ^ (left - 1) + 2 ^ (left - 1)
     halves = ap (λ (k : ℕ). 2 ^ k) one-more ∙ omega (arith, pow-suc 2 (left - 1))
 
-    below : pairsBelow left (pair p q) ≡ pairsBelow (left - 1) (child 2 (pair p q)) ++ pairsBelow (left - 1) (child 3 (pair p q))
+    -- The pairs below the two children.
+    abbrev leftPairs : List Pair
+    leftPairs = pairsBelow (left - 1) (child 2 (pair p q))
+
+    abbrev rightPairs : List Pair
+    rightPairs = pairsBelow (left - 1) (child 3 (pair p q))
+
+    below : pairsBelow left (pair p q) ≡ leftPairs ++ rightPairs
     below = ap (λ (k : ℕ). pairsBelow k (pair p q)) one-more ∙ pairsBelow-suc (left - 1) (pair p q)
 
     pub node-fits : p < 2 ^ 31
@@ -88,7 +98,7 @@ module _ {left p q : ℕ} {f : Frame} {last : List ℕ} {s : Search} (r : Ready 
       searching = record { framed = r .searching .framed; good = r .searching .good; few = omega (arith, r .searching .few, halves) };
       levels = omega (arith, r .levels);
       proper = child-made 2 two-linear e;
-      inside = λ t i. r .inside t (rw below (Memᴰ·append-left {s = pairsBelow (left - 1) (child 2 (pair p q))} (pairsBelow (left - 1) (child 3 (pair p q))) (rw (made 2 e) i)));
+      inside = λ t i. r .inside t (rw below (Memᴰ·append-left {s = leftPairs} rightPairs (rw (made 2 e) i)));
     }
 
     pub right-ready : {c d : ℕ} {o : Search} → c ≡ child 2 (pair p q) .p → d ≡ child 3 (pair p q) .p
@@ -101,7 +111,7 @@ module _ {left p q : ℕ} {f : Frame} {last : List ℕ} {s : Search} (r : Ready 
       }) u;
       levels = omega (arith, r .levels);
       proper = child-made 3 three-linear g;
-      inside = λ t i. r .inside t (rw below (Memᴰ·append-right (pairsBelow (left - 1) (child 2 (pair p q))) (rw (made 3 g) i)));
+      inside = λ t i. r .inside t (rw below (Memᴰ·append-right leftPairs (rw (made 3 g) i)));
     }
 
     pub node-done : {c d : ℕ} {a o : Search} → c ≡ child 2 (pair p q) .p → d ≡ child 3 (pair p q) .p

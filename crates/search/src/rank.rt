@@ -43,7 +43,8 @@ fn is_low(row: &[u32], s: usize, f: Frame, last: &[u32]) -> bool
 // Whether there is no room left, and the first t-values put a row behind the last one kept.
 fn is_high(row: &[u32], s: usize, out: &[u32], t: Tally, f: Frame) -> bool
     requires { ⌜ (ranksFrom ≤ s) × (s ≤ length (now row)) × (s ≤ widthOf f) × (1 ≤ f .capacity) × (f .capacity * widthOf f ≤ length (now out)) ⌝ }
-    ensures { λ r. ⌜ r ≡ (eqb (t .kept) (f .capacity) && before (ranksOf s (drop ((t .kept - 1) * widthOf f) (now (out .entry)))) (ranksOf s (now (row .entry)))) ⌝ }
+    ensures { λ r. ⌜ r ≡ (eqb (t .kept) (f .capacity)
+        && before (ranksOf s (drop ((t .kept - 1) * widthOf f) (now (out .entry)))) (ranksOf s (now (row .entry)))) ⌝ }
 {
     if t.kept != f.capacity {
         return false;

@@ -62,7 +62,8 @@ returns-2 c =
     let above = passed (kept c .before) in
     let s = above .before .before in
     let a = at s .args in
-    laws.offer-counted (a .f) (a .last .now) (state s) (a .p) (a .q) (sym (above-is (above .before)) ∙ not-false _ (above .if1 .left)) (kept c .keep-row .ensures)
+    laws.offer-counted (a .f) (a .last .now) (state s) (a .p) (a .q) (sym (above-is (above .before)) ∙ not-false _ (above .if1 .left))
+    (kept c .keep-row .ensures)
 
 pub offer-known-spec : {M : Type 1} → statement M
 offer-known-spec =

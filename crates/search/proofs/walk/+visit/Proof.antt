@@ -98,7 +98,8 @@ module _ (t : ℕ) where
       let second = whole .before .before in
       let found = half (second .before) in
       let node = first found .before in
-      laws.node-done (ready-node node) (node .if1 .left) (first found .child .ensures) (second .child2 .ensures) (found .visit .ensures) (whole .visit2 .ensures)
+      laws.node-done (ready-node node) (node .if1 .left) (first found .child .ensures) (second .child2 .ensures) (found .visit .ensures)
+      (whole .visit2 .ensures)
 
 pub +visit-spec : {M : Type 1} → statement M
 +visit-spec = close levels λ t. visit-lts.spec (calls t) (here t) visit.Post
