@@ -17,9 +17,6 @@ use Rattle.catalogue.proofs.body.Reads as body
 use Rattle.catalogue.proofs.row_at.Reads as row-at
 use Rattle.catalogue.proofs.place_behind.Reads as place-behind
 use Rattle.line.proofs.read_numbers.Reads as read-numbers
-use Rattle.text.proofs.put_decimal.Reads as text-put-decimal
-use Rattle.text.proofs.put_line.Reads as put-line
-use Rattle.text.proofs.put_long_line.Reads as put-long-line
 use Rattle.listing.proofs.read_line.Reads as read-line
 use Rattle.listing.proofs.put_decimal.Reads as put-decimal
 use Rattle.listing.proofs.put_header.Reads as put-header
@@ -95,15 +92,6 @@ points-unique κs a r r′ e e′ = both
 
 pub read-numbers-unique : Determined read-numbers.Post (λ κs r e. r and now (second e))
 read-numbers-unique κs a r r′ e e′ = both
-
-pub text-put-decimal-unique : Determined text-put-decimal.Post (λ κs r e. r and now (e .0))
-text-put-decimal-unique κs a r r′ e e′ = both
-
-pub put-line-unique : Determined put-line.Post (λ κs r e. r and now (e .0))
-put-line-unique κs a r r′ e e′ = both
-
-pub put-long-line-unique : Determined put-long-line.Post (λ κs r e. r and now (e .0))
-put-long-line-unique κs a r r′ e e′ = both
 
 pub put-decimal-unique : Determined put-decimal.Post (λ κs r e. r and now (e .0))
 put-decimal-unique κs a r r′ e e′ = both
