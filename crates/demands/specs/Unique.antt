@@ -32,7 +32,7 @@ use Rattle.interface.proofs.fenyurka_t_value.Reads as c-t-value
 use Rattle.interface.proofs.fenyurka_first_page.Reads as c-first-page
 use Rattle.interface.proofs.fenyurka_page_after.Reads as c-page-after
 use Rattle.interface.proofs.fenyurka_points.Reads as c-points
-use Rattle.interface.proofs.fenyurka_open.Reads as c-opened
+use Rattle.interface.proofs.fenyurka_open.Reads as c-open
 use Rattle.interface.proofs.fenyurka_lookup.Reads as c-lookup
 use Rattle.interface.proofs.fenyurka_row.Reads as c-row
 
@@ -124,28 +124,28 @@ module _ (w : World) where
       (fact (w .𝓤) ((r .body ≡ r′ .body) × (r .degree ≡ r′ .degree) × (r .top ≡ r′ .top) × (r .place ≡ r′ .place)))
   advance-unique κs a r r′ e e′ = facts-both (λ x y. (same (x .0) (y .0), same (x .1) (y .1), same (x .2) (y .2), same (x .3) (y .3)))
 
--- ---- from C: the number returned, each number stored and each slice
+-- ---- from C: the struct returned and each slice
 
-pub c-judge-unique : (κs : _) (a : _) (r r′ : _) (e e′ : _) → c-judge.Post κs a r e → c-judge.Post κs a r′ e′ → (r ≡ r′) × (now (e .1 .1 .1 .0) ≡ now (e′ .1 .1 .1 .0))
-c-judge-unique κs a r r′ e e′ x y = (same (x .0) (y .0), same (x .1) (y .1))
+pub c-judge-unique : (κs : _) (a : _) (r r′ : _) (e e′ : _) → c-judge.Post κs a r e → c-judge.Post κs a r′ e′ → r ≡ r′
+c-judge-unique κs a r r′ e e′ x y = same x y
 
-pub c-t-value-unique : (κs : _) (a : _) (r r′ : _) (e e′ : _) → c-t-value.Post κs a r e → c-t-value.Post κs a r′ e′ → (r ≡ r′) × (now (e .1 .1 .1 .1 .0) ≡ now (e′ .1 .1 .1 .1 .0))
-c-t-value-unique κs a r r′ e e′ x y = (same (x .0) (y .0), same (x .1) (y .1))
+pub c-t-value-unique : (κs : _) (a : _) (r r′ : _) (e e′ : _) → c-t-value.Post κs a r e → c-t-value.Post κs a r′ e′ → r ≡ r′
+c-t-value-unique κs a r r′ e e′ x y = same x y
 
-pub c-first-page-unique : (κs : _) (a : _) (r r′ : _) (e e′ : _) → c-first-page.Post κs a r e → c-first-page.Post κs a r′ e′ → (r ≡ r′) × (now (e .1 .1 .0) ≡ now (e′ .1 .1 .0)) × (now (e .1 .1 .1 .0) ≡ now (e′ .1 .1 .1 .0)) × (now (e .1 .1 .1 .1 .0) ≡ now (e′ .1 .1 .1 .1 .0))
-c-first-page-unique κs a r r′ e e′ x y = (same (x .0) (y .0), same (x .1 .0) (y .1 .0), same (x .1 .1 .0) (y .1 .1 .0), same (x .1 .1 .1) (y .1 .1 .1))
+pub c-first-page-unique : (κs : _) (a : _) (r r′ : _) (e e′ : _) → c-first-page.Post κs a r e → c-first-page.Post κs a r′ e′ → (r ≡ r′) × (now (e .1 .0) ≡ now (e′ .1 .0))
+c-first-page-unique κs a r r′ e e′ x y = (same (x .0) (y .0), same (x .1) (y .1))
 
-pub c-page-after-unique : (κs : _) (a : _) (r r′ : _) (e e′ : _) → c-page-after.Post κs a r e → c-page-after.Post κs a r′ e′ → (r ≡ r′) × (now (e .1 .1 .1 .1 .0) ≡ now (e′ .1 .1 .1 .1 .0)) × (now (e .1 .1 .1 .1 .1 .0) ≡ now (e′ .1 .1 .1 .1 .1 .0)) × (now (e .1 .1 .1 .1 .1 .1 .0) ≡ now (e′ .1 .1 .1 .1 .1 .1 .0))
-c-page-after-unique κs a r r′ e e′ x y = (same (x .0) (y .0), same (x .1 .0) (y .1 .0), same (x .1 .1 .0) (y .1 .1 .0), same (x .1 .1 .1) (y .1 .1 .1))
+pub c-page-after-unique : (κs : _) (a : _) (r r′ : _) (e e′ : _) → c-page-after.Post κs a r e → c-page-after.Post κs a r′ e′ → (r ≡ r′) × (now (e .1 .1 .1 .0) ≡ now (e′ .1 .1 .1 .0))
+c-page-after-unique κs a r r′ e e′ x y = (same (x .0) (y .0), same (x .1) (y .1))
 
-pub c-points-unique : (κs : _) (a : _) (r r′ : _) (e e′ : _) → c-points.Post κs a r e → c-points.Post κs a r′ e′ → (r ≡ r′) × (now (e .1 .1 .1 .1 .0) ≡ now (e′ .1 .1 .1 .1 .0)) × (now (e .1 .1 .1 .1 .1 .0) ≡ now (e′ .1 .1 .1 .1 .1 .0))
-c-points-unique κs a r r′ e e′ x y = (same (x .0) (y .0), same (x .1 .0) (y .1 .0), same (x .1 .1) (y .1 .1))
+pub c-points-unique : (κs : _) (a : _) (r r′ : _) (e e′ : _) → c-points.Post κs a r e → c-points.Post κs a r′ e′ → (r ≡ r′) × (now (e .1 .1 .1 .1 .0) ≡ now (e′ .1 .1 .1 .1 .0))
+c-points-unique κs a r r′ e e′ x y = (same (x .0) (y .0), same (x .1) (y .1))
 
-pub c-open-unique : (κs : _) (a : _) (r r′ : _) (e e′ : _) → c-opened.Post κs a r e → c-opened.Post κs a r′ e′ → (r ≡ r′) × (now (e .1 .0) ≡ now (e′ .1 .0))
-c-open-unique κs a r r′ e e′ x y = (same (x .0) (y .0), same (x .1) (y .1))
+pub c-open-unique : (κs : _) (a : _) (r r′ : _) (e e′ : _) → c-open.Post κs a r e → c-open.Post κs a r′ e′ → r ≡ r′
+c-open-unique κs a r r′ e e′ x y = same x y
 
-pub c-lookup-unique : (κs : _) (a : _) (r r′ : _) (e e′ : _) → c-lookup.Post κs a r e → c-lookup.Post κs a r′ e′ → (r ≡ r′) × (now (e .1 .1 .0) ≡ now (e′ .1 .1 .0)) × (now (e .1 .1 .1 .0) ≡ now (e′ .1 .1 .1 .0)) × (now (e .1 .1 .1 .1 .0) ≡ now (e′ .1 .1 .1 .1 .0))
-c-lookup-unique κs a r r′ e e′ x y = (same (x .0) (y .0), same (x .1 .0) (y .1 .0), same (x .1 .1 .0) (y .1 .1 .0), same (x .1 .1 .1) (y .1 .1 .1))
+pub c-lookup-unique : (κs : _) (a : _) (r r′ : _) (e e′ : _) → c-lookup.Post κs a r e → c-lookup.Post κs a r′ e′ → r ≡ r′
+c-lookup-unique κs a r r′ e e′ x y = same x y
 
-pub c-row-unique : (κs : _) (a : _) (r r′ : _) (e e′ : _) → c-row.Post κs a r e → c-row.Post κs a r′ e′ → (r ≡ r′) × (now (e .1 .1 .1 .1 .0) ≡ now (e′ .1 .1 .1 .1 .0)) × (now (e .1 .1 .1 .1 .1 .0) ≡ now (e′ .1 .1 .1 .1 .1 .0))
-c-row-unique κs a r r′ e e′ x y = (same (x .0) (y .0), same (x .1 .0) (y .1 .0), same (x .1 .1) (y .1 .1))
+pub c-row-unique : (κs : _) (a : _) (r r′ : _) (e e′ : _) → c-row.Post κs a r e → c-row.Post κs a r′ e′ → r ≡ r′
+c-row-unique κs a r r′ e e′ x y = same x y
