@@ -44,7 +44,7 @@ pub record SameLookup (values : List ℕ) (b : FenyurkaBody) : Type 0 where
   pub rows : b .rows ≡ value values 2
 
 -- The part of the file that C cuts out lies within it, is the part that a lookup gives, and has room for the rows.
-pub record Cut (s part : List ℕ) (b : FenyurkaBody) : Type 0 where
+pub record BodyPart (s part : List ℕ) (b : FenyurkaBody) : Type 0 where
   pub within : b .offset + b .length ≤ length s
   pub same : part ≡ take (b .length) (drop (b .offset) s)
   pub whole : b .length ≡ b .rows * b .«row_size»
@@ -57,9 +57,9 @@ module _ (s : List ℕ) (m : ℕ) where
       go (At i) = record { refusal = refl; top = refl; rows = refl }
       go (Missing r) = record { refusal = refl; top = refl; rows = refl }
 
-  pub located-cut : Cut s (lookupPart s m) (located s m)
-  located-cut = rw (← located-sought s m, ← lookup-part s m) (go (seeking s m) refl)
+  pub located-part : BodyPart s (lookupPart s m) (located s m)
+  located-part = rw (← located-sought s m, ← lookup-part s m) (go (seeking s m) refl)
     where
-      go : (k : Sought) → seeking s m ≡ k → Cut s (partOf s k) (locatedAt s k)
+      go : (k : Sought) → seeking s m ≡ k → BodyPart s (partOf s k) (locatedAt s k)
       go (At i) at = record { within = seek-located s m i at .lawful .within; same = refl; whole = refl }
       go (Missing r) at = record { within = omega arith; same = refl; whole = refl }

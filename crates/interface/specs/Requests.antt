@@ -1,7 +1,17 @@
--- The request for a page as C says it: a list, and from where. Assumes nothing.
+-- What C asks of a list: a page from a position, and the row at a place of its body. Assumes nothing.
+use mathlib.Core.List.{List}
+use Prim.Native.Nat.{ℕ}
+use Rattle.definitions.specs.Catalogue.{nextRow, nextPlace}
 use Rattle.definitions.specs.declared.Position.{Position}
 use Rattle.definitions.specs.declared.PageRequest.{PageRequest}
+use Rattle.results.specs.Results.{rowResult}
+use Rattle.results.specs.declared.catalogues.FenyurkaRow.{FenyurkaRow}
 use Rattle.interface.specs.declared.FenyurkaList.{FenyurkaList}
 
 abbrev pub pageRequest : FenyurkaList → Position → PageRequest
 pageRequest list position = record { degree = list .degree; top = list .top; position = position }
+
+-- The next row of the body and the place behind it.
+abbrev pub rowAtPlace : FenyurkaList → List ℕ → ℕ → FenyurkaRow
+rowAtPlace list body place =
+    rowResult (nextRow (list .degree) (list .top) body place) (list .top) (nextPlace (list .degree) (list .top) body place)

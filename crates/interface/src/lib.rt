@@ -5,9 +5,9 @@ ghost use Prim.Native.Nat.{_+_, _≤_};
 ghost use lib.ListN.{length};
 ghost use Rattle.definitions.specs.Answers.{judgementValues, uniformityValues, pageValues, pointsValues, openingValues};
 ghost use Rattle.definitions.specs.Calls.{judgement, uniformity, pageAnswer, pageSlice, pointsAnswer, pointsSlice};
-ghost use Rattle.definitions.specs.Catalogue.{contentsSize, entryAt, opening, nextRow, nextPlace};
-ghost use Rattle.results.specs.Results.{judgementResult, tValueResult, pageResult, pointsResult, catalogueResult, rowResult};
-ghost use Rattle.interface.specs.Requests.{pageRequest};
+ghost use Rattle.definitions.specs.Catalogue.{contentsSize, entryAt, opening};
+ghost use Rattle.results.specs.Results.{judgementResult, tValueResult, pageResult, pointsResult, catalogueResult};
+ghost use Rattle.interface.specs.Requests.{pageRequest, rowAtPlace};
 ghost use Rattle.interface.specs.Located.{bodyOf, located};
 use catalogue::form;
 use catalogue::seek;
@@ -31,7 +31,7 @@ pub struct FenyurkaList {
 }
 
 // The request for a page of a list from a position.
-pub fn page_request(list: FenyurkaList, position: Position) -> PageRequest
+fn page_request(list: FenyurkaList, position: Position) -> PageRequest
     ensures { λ r. ⌜ r ≡ pageRequest list position ⌝ }
 {
     PageRequest {
@@ -104,7 +104,7 @@ pub extern "C" fn fenyurka_open(file: &[u8]) -> FenyurkaCatalogue
 }
 
 // The body of entry i.
-pub fn entry_body(file: &[u8], i: usize) -> FenyurkaBody
+fn entry_body(file: &[u8], i: usize) -> FenyurkaBody
     requires { ⌜ contentsSize (i + 1) ≤ length (now file) ⌝ }
     ensures { λ r. ⌜ r ≡ bodyOf (entryAt (now (file .entry)) i) ⌝ }
 {
@@ -129,7 +129,7 @@ pub extern "C" fn fenyurka_lookup(file: &[u8], degree: u32) -> FenyurkaBody
 // The row at a place of a body and the place behind it, or the end.
 #[no_mangle]
 pub extern "C" fn fenyurka_row(list: FenyurkaList, body: &[u8], place: usize) -> FenyurkaRow
-    ensures { λ r. ⌜ r ≡ rowResult (nextRow (list .degree) (list .top) (now (body .entry)) place) (list .top) (nextPlace (list .degree) (list .top) (now (body .entry)) place) ⌝ }
+    ensures { λ r. ⌜ r ≡ rowAtPlace list (now (body .entry)) place ⌝ }
 {
     let degree = list.degree;
     let top = list.top;
