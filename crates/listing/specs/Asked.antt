@@ -1,12 +1,14 @@
--- What is asked, by how many numbers the line has: a line of more than three is read as one that has none.
--- By cases on the numbers, which stand at the front of the slice.
+-- What is asked: the numbers of the line, and the defaults behind them; a line of more than three is read as one that has none.
+-- By cases on the numbers, which stand over the front of the defaults.
 -- Assumes nothing.
 use mathlib.Core.Path.{_≡_, refl, _∙_}
+use mathlib.Core.Bool.{Bool, true, false}
 use mathlib.Core.List.{List, [], _∷_}
 use Prim.Native.Nat.{ℕ, suc, _≤_}
 use native.Mathlib.Omega.{arith}
+use lib.Dec.{leb}
 use lib.ListN.{length, getD}
-use borrow.Author.Tests.{lt-leb}
+use borrow.Author.Tests.{lt-leb, leb-true}
 use Rattle.definitions.specs.Number.{over}
 use Rattle.definitions.specs.Listing.{defaultTop, defaultSize, lineNumbers, numbersWithin, asked, readLine}
 use Rattle.definitions.specs.declared.Line.the-variants.{Asked, Unreadable}
@@ -26,46 +28,36 @@ read-within s = go (lineNumbers s) refl
     go (a ∷ b ∷ c ∷ []) e = rw (e, numbersWithin, e)
     go (a ∷ b ∷ c ∷ d ∷ l) e = rw (e, numbersWithin, lt-leb (length (a ∷ b ∷ c ∷ d ∷ l)) mostNumbers (omega arith))
 
--- The numbers that are read stand at the front of the slice, and their count tells which are given.
-module _ (s : List ℕ) {r : ℕ} (space : List ℕ) {exit : List ℕ} (count : r ≡ length (numbersWithin mostNumbers s))
-    (stored : exit ≡ over 0 (numbersWithin mostNumbers s) space) where
-  pub asked-one : r ≡ 1 → Asked (getD exit 0 0) defaultTop defaultSize ≡ readLine s
-  unfolding over asked
-  asked-one one = rw (read-within s) (go (numbersWithin mostNumbers s) count stored)
-    where
-      go : (l : List ℕ) → r ≡ length l → exit ≡ over 0 l space → Asked (getD exit 0 0) defaultTop defaultSize ≡ asked l
-      go [] e f = absurd (omega arith)
-      go (m ∷ []) e f = rw f
-      go (m ∷ top ∷ l) e f = absurd (omega arith)
+within-few : (s : List ℕ) → length (numbersWithin mostNumbers s) ≤ mostNumbers
+unfolding numbersWithin
+within-few s = go (leb (length (lineNumbers s)) mostNumbers) refl
+  where
+    go : (t : Bool) → leb (length (lineNumbers s)) mostNumbers ≡ t → length (numbersWithin mostNumbers s) ≤ mostNumbers
+    go true e = rw (e, numbersWithin) (leb-true (length (lineNumbers s)) mostNumbers e)
+    go false e = rw (e, numbersWithin) (omega arith)
 
-  pub asked-two : r ≡ 2 → Asked (getD exit 0 0) (getD exit 1 0) defaultSize ≡ readLine s
-  unfolding over asked
-  asked-two two = rw (read-within s) (go (numbersWithin mostNumbers s) count stored)
-    where
-      go : (l : List ℕ) → r ≡ length l → exit ≡ over 0 l space → Asked (getD exit 0 0) (getD exit 1 0) defaultSize ≡ asked l
-      go [] e f = absurd (omega arith)
-      go (m ∷ []) e f = absurd (omega arith)
-      go (m ∷ top ∷ []) e f = rw f
-      go (m ∷ top ∷ size ∷ l) e f = absurd (omega arith)
+-- The numbers that are read take the place of the first defaults.
+abbrev defaults : List ℕ
+defaults = 0 ∷ defaultTop ∷ defaultSize ∷ []
 
-  pub asked-three : r ≡ 3 → Asked (getD exit 0 0) (getD exit 1 0) (getD exit 2 0) ≡ readLine s
-  unfolding over asked
-  asked-three three = rw (read-within s) (go (numbersWithin mostNumbers s) count stored)
-    where
-      go : (l : List ℕ) → r ≡ length l → exit ≡ over 0 l space → Asked (getD exit 0 0) (getD exit 1 0) (getD exit 2 0) ≡ asked l
-      go [] e f = absurd (omega arith)
-      go (m ∷ []) e f = absurd (omega arith)
-      go (m ∷ top ∷ []) e f = absurd (omega arith)
-      go (m ∷ top ∷ size ∷ []) e f = rw f
-      go (m ∷ top ∷ size ∷ n ∷ l) e f = absurd (omega arith)
-
-  pub asked-none : (r ≡ 1 → ⊥) → (r ≡ 2 → ⊥) → (r ≡ 3 → ⊥) → Unreadable ≡ readLine s
+module _ (s : List ℕ) {r : ℕ} (count : r ≡ length (numbersWithin mostNumbers s)) where
+  pub asked-none : r ≡ 0 → Unreadable ≡ readLine s
   unfolding asked
-  asked-none one two three = rw (read-within s) (go (numbersWithin mostNumbers s) count)
+  asked-none z = rw (read-within s) (go (numbersWithin mostNumbers s) count)
     where
       go : (l : List ℕ) → r ≡ length l → Unreadable ≡ asked l
       go [] e = refl
-      go (m ∷ []) e = absurd (one e)
-      go (m ∷ top ∷ []) e = absurd (two e)
-      go (m ∷ top ∷ size ∷ []) e = absurd (three e)
-      go (m ∷ top ∷ size ∷ n ∷ l) e = refl
+      go (m ∷ l) e = absurd (omega arith)
+
+  pub asked-some : {exit : List ℕ} → exit ≡ over 0 (numbersWithin mostNumbers s) defaults → (r ≡ 0 → ⊥)
+      → Asked (getD exit 0 0) (getD exit 1 0) (getD exit 2 0) ≡ readLine s
+  unfolding over asked
+  asked-some {exit} stored some = rw (read-within s) (go (numbersWithin mostNumbers s) count (within-few s) stored)
+    where
+      go : (l : List ℕ) → r ≡ length l → length l ≤ mostNumbers → exit ≡ over 0 l defaults
+          → Asked (getD exit 0 0) (getD exit 1 0) (getD exit 2 0) ≡ asked l
+      go [] e f h = absurd (some e)
+      go (m ∷ []) e f h = rw h
+      go (m ∷ top ∷ []) e f h = rw h
+      go (m ∷ top ∷ size ∷ []) e f h = rw h
+      go (m ∷ top ∷ size ∷ n ∷ l) e f h = absurd (omega arith)

@@ -1,5 +1,4 @@
 -- The line that is read and the text that is printed: what the contracts cite, and the laws that their proofs rest on.
 pub mod Asked
-pub mod Rows
 pub mod Texts
 pub mod Printed

@@ -1,15 +1,15 @@
 // The line that is read and the text that is printed, on byte slices. A text is put at a place of a buffer: where it fits, the answer
 // is the place behind it; where it does not, nothing is written and the answer is the place itself.
 ghost use mathlib.Core.Path.{_≡_};
+ghost use Prim.Native.Nat.{_≤_};
+ghost use lib.ListN.{length};
 ghost use Rattle.definitions.specs.Listing.{decimal, headerText, rowText, pageText, totalText, refusedText, readLine};
+ghost use Rattle.listing.specs.Texts.{pageLine, mostEnding};
 ghost use Rattle.text.specs.Place.{placed, behind};
 
 pub mod printing;
-mod row;
 
 use definitions::Line;
-use row::row_fits;
-use row::write_row;
 use text::put_line;
 use text::put_long_line;
 
@@ -18,24 +18,19 @@ const DEFAULT_TOP: u32 = 5;
 
 const DEFAULT_SIZE: u32 = 50;
 
-// The most numbers of a line: degree, top dimension and page size.
-const MOST_NUMBERS: usize = 3;
-
 // The largest page size.
 pub const LARGEST_SIZE: u32 = 1000;
 
-// The line that is asked with; what follows a newline is not read.
+// The line that is asked with; what follows a newline is not read. The numbers that the line has take the place of the first defaults; a degree
+// has no default, as a line has at least one number.
 pub fn read_line(input: &[u8]) -> Line
     ensures { λ r. ⌜ r ≡ readLine (now (input .entry)) ⌝ }
 {
-    let mut space = [0u32; MOST_NUMBERS];
-    let numbers: &mut [u32] = &mut space;
-    match line::read_numbers(input, numbers) {
-        1 => Line::Asked(numbers[0], DEFAULT_TOP, DEFAULT_SIZE),
-        2 => Line::Asked(numbers[0], numbers[1], DEFAULT_SIZE),
-        3 => Line::Asked(numbers[0], numbers[1], numbers[2]),
-        _ => Line::Unreadable,
+    let mut asked = [0, DEFAULT_TOP, DEFAULT_SIZE];
+    if line::read_numbers(input, &mut asked) == 0 {
+        return Line::Unreadable;
     }
+    Line::Asked(asked[0], asked[1], asked[2])
 }
 
 // The decimal digits of n.
@@ -59,14 +54,7 @@ pub fn put_row(out: &mut [u8], at: usize, row: &[u32]) -> usize
     ensures { λ r. ⌜ r ≡ behind at (rowText (now (row .entry))) (now (out .entry)) ⌝ }
     ensures { λ _. ⌜ now (out .exit) ≡ placed at (rowText (now (row .entry))) (now (out .entry)) ⌝ }
 {
-    if at > out.len() {
-        return at;
-    }
-    if row_fits(row, out.len() - at) {
-        write_row(out, at, row)
-    } else {
-        at
-    }
+    row_text::put_row(out, at, row)
 }
 
 // The line below a page: its number, its rows, and whether more follow.
@@ -75,10 +63,19 @@ pub fn put_page(out: &mut [u8], at: usize, number: u32, rows: u32, further: bool
     ensures { λ _. ⌜ now (out .exit) ≡ placed at (pageText number rows further) (now (out .entry)) ⌝ }
 {
     if further {
-        put_long_line(out, at, b"page ", number, b" rows ", rows, b" more\n")
+        put_page_line(out, at, number, rows, b" more\n")
     } else {
-        put_long_line(out, at, b"page ", number, b" rows ", rows, b" end\n")
+        put_page_line(out, at, number, rows, b" end\n")
     }
+}
+
+// The same with the ending that says whether more follow.
+fn put_page_line(out: &mut [u8], at: usize, number: u32, rows: u32, ending: &[u8]) -> usize
+    requires { ⌜ length (now ending) ≤ mostEnding ⌝ }
+    ensures { λ r. ⌜ r ≡ behind at (pageLine number rows (now (ending .entry))) (now (out .entry)) ⌝ }
+    ensures { λ _. ⌜ now (out .exit) ≡ placed at (pageLine number rows (now (ending .entry))) (now (out .entry)) ⌝ }
+{
+    put_long_line(out, at, b"page ", number, b" rows ", rows, ending)
 }
 
 // The line below a list: the sum of all rows.

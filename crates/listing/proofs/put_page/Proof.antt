@@ -7,13 +7,16 @@ use Rattle.listing.proofs.put_page.Tie as tie
 
 returns : tie.Need-returns
 unfolding numbers
-returns c = rw (page-line, c .before .before .before .before .before .before .before .if1 .taken) (c .before .before .put-long-line .ensures)
+returns c =
+    let put = c .before .before in
+    rw (page-line, put .before .before .before .if1 .taken) (put .put-page-line .ensures)
 
 returns-2 : tie.Need-returns-2
 unfolding numbers
-returns-2 c = rw (page-line, c .before .before .before .before .before .before .before .if1 .left) (c .before .before .put-long-line2 .ensures)
+returns-2 c =
+    let put = c .before .before in
+    rw (page-line, put .before .before .before .if1 .left) (put .put-page-line2 .ensures)
 
 pub put-page-spec : {M : Type 1} → statement M
 put-page-spec =
-    tie.close (tie.spec (search needs) (search needs) (search needs) (search needs) (search needs) (search needs)
-    (search needs) (search needs) (search needs) returns (search needs) returns-2)
+    tie.close (tie.spec (search needs) (search needs) (search needs) (search needs) (search needs) returns (search needs) returns-2)

@@ -1,42 +1,21 @@
--- `listing::read_line` reads up to three numbers, and their count tells what is asked. Assumes nothing.
+-- `listing::read_line` puts the numbers of the line over the defaults. Assumes nothing.
 use denote.Ref.{now}
 use borrow.Author.Needs.{needs}
-use Rattle.listing.specs.Asked.{asked-one, asked-two, asked-three, asked-none}
+use Rattle.listing.specs.Asked.{asked-none, asked-some}
 use Rattle.listing.proofs.read_line.Statement.{statement}
 use Rattle.listing.proofs.read_line.Tie as tie
 
--- The numbers are read.
-abbrev read : tie.After-slice-known → tie.After-read-numbers
-read c = c .before .before
-
-abbrev input : tie.After-slice-known → tie.Start
-input c = read c .before .before .before .before
+-- What is known once the numbers are read.
+abbrev start : tie.After-read-numbers → tie.Start
+start c = c .before .before .before
 
 returns : tie.Need-returns
-returns c =
-    let known = c .before .before .before in
-    asked-one (now (input known .args .input)) _ (read known .read-numbers .ensures .0) (read known .read-numbers .ensures .1) (c .before .before .match .keys1)
+returns c = let read = c .before .before in asked-none (now (start read .args .input)) (read .read-numbers .ensures .0) (c .if1 .taken)
 
 returns-2 : tie.Need-returns-2
 returns-2 c =
-    let known = c .before .before .before .before in
-    asked-two (now (input known .args .input)) _ (read known .read-numbers .ensures .0) (read known .read-numbers .ensures .1)
-    (c .before .before .before .match .keys2)
-
-returns-3 : tie.Need-returns-3
-returns-3 c =
-    let matched = c .before .before .before .before in
-    let known = matched .before in
-    asked-three (now (input known .args .input)) _ (read known .read-numbers .ensures .0) (read known .read-numbers .ensures .1) (matched .match .keys3)
-
-returns-4 : tie.Need-returns-4
-returns-4 c =
-    let known = c .before .before in
-    let other = c .before .match .rest in
-    asked-none (now (input known .args .input)) _ (read known .read-numbers .ensures .0) (read known .read-numbers .ensures .1)
-    (other .0 .0 .1) (other .0 .1) (other .1)
+    let read = c .before .before in
+    asked-some (now (start read .args .input)) (read .read-numbers .ensures .0) (read .read-numbers .ensures .1) (c .if1 .left)
 
 pub read-line-spec : {M : Type 1} → statement M
-read-line-spec =
-    tie.close (tie.spec (search needs) (search needs) (search needs) (search needs) (search needs) (search needs) (search needs) (search needs)
-    returns returns-2 returns-3 returns-4)
+read-line-spec = tie.close (tie.spec (search needs) (search needs) returns (search needs) (search needs) (search needs) returns-2)

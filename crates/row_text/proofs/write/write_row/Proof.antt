@@ -1,4 +1,4 @@
--- `listing::row::write_row` writes a row's text over what stood at the place. The invariant: what is left of the text, over what stands
+-- `row_text::write::write_row` writes a row's text over what stood at the place. The invariant: what is left of the text, over what stands
 -- behind the i numbers written, is the whole text over what stood there at first. The measure is how many numbers are left. Assumes nothing.
 use mathlib.Core.Path.{_≡_, refl, ap, _∙_}
 use Prim.Native.Nat.{_+_, _-_, _≤_}
@@ -9,9 +9,9 @@ use borrow.Author.Needs.{needs}
 use Rattle.definitions.specs.Listing.{decimal, rowText, newline}
 use Rattle.definitions.specs.Number.{over}
 use Rattle.slice_laws.specs.Over.{over-one, over-then-room}
-use Rattle.listing.specs.Rows.{gap, leftText, row-left, left-turn-length, left-turn-step, left-end}
-use Rattle.listing.proofs.row.write_row.Statement.{statement}
-use Rattle.listing.proofs.row.write_row.Tie as tie
+use Rattle.row_text.specs.Rows.{gap, leftText, row-left, left-turn-length, left-turn-step, left-end}
+use Rattle.row_text.proofs.write.write_row.Statement.{statement}
+use Rattle.row_text.proofs.write.write_row.Tie as tie
 
 abbrev Inv-loop : tie.InvT-loop
 Inv-loop out₀ at row place₀ i₀ out place i =

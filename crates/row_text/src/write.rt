@@ -5,7 +5,7 @@ ghost use lib.Dec.{leb};
 ghost use lib.ListN.{length};
 ghost use Rattle.definitions.specs.Number.{over};
 ghost use Rattle.definitions.specs.Listing.{rowText};
-ghost use Rattle.listing.specs.Rows.{gap};
+ghost use Rattle.row_text.specs.Rows.{gap};
 use text::write::digits;
 use text::write::write_decimal;
 

@@ -1,4 +1,4 @@
--- `listing::row::row_fits` tests that a row's text fits. The invariant: what is left of the room and the bytes of the numbers passed are the room.
+-- `row_text::write::row_fits` tests that a row's text fits. The invariant: what is left of the room and the bytes of the numbers passed are the room.
 -- The measure is how many numbers are left. Assumes nothing.
 use mathlib.Core.Path.{_≡_, sym, ap}
 use Prim.Native.Nat.{ℕ, _+_, _-_, _≤_, _<_}
@@ -10,9 +10,9 @@ use borrow.Author.Needs.{needs}
 use borrow.Author.Tests.{le-leb, lt-leb}
 use Rattle.definitions.specs.Listing.{rowText}
 use Rattle.text.specs.Decimal.{decimal-short}
-use Rattle.listing.specs.Rows.{rowBytes, bytes-turn, bytes-end, row-none, row-some}
-use Rattle.listing.proofs.row.row_fits.Statement.{statement}
-use Rattle.listing.proofs.row.row_fits.Tie as tie
+use Rattle.row_text.specs.Rows.{rowBytes, bytes-turn, bytes-end, row-none, row-some}
+use Rattle.row_text.proofs.write.row_fits.Statement.{statement}
+use Rattle.row_text.proofs.write.row_fits.Tie as tie
 
 abbrev Inv-loop : tie.InvT-loop
 Inv-loop row room left₀ i₀ left i = (i ≤ length row) × (rowBytes row + left ≡ room + rowBytes (drop i row))

@@ -1,4 +1,4 @@
--- `listing::row::write_gap` writes a space before every number but the first. Assumes nothing.
+-- `row_text::write::write_gap` writes a space before every number but the first. Assumes nothing.
 use mathlib.Core.Path.{_≡_, refl, sym, ap}
 use native.Mathlib.Nat.{add-zero}
 use native.Mathlib.Omega.{arith}
@@ -7,9 +7,9 @@ use lib.ListN.{length}
 use borrow.Author.Needs.{needs}
 use Rattle.definitions.specs.Listing.{space}
 use Rattle.slice_laws.specs.Over.{over-one, over-nothing}
-use Rattle.listing.specs.Rows.{gap-first, gap-other}
-use Rattle.listing.proofs.row.write_gap.Statement.{statement}
-use Rattle.listing.proofs.row.write_gap.Tie as tie
+use Rattle.row_text.specs.Rows.{gap-first, gap-other}
+use Rattle.row_text.proofs.write.write_gap.Statement.{statement}
+use Rattle.row_text.proofs.write.write_gap.Tie as tie
 
 returns : tie.Need-returns
 returns c =

@@ -1,4 +1,4 @@
--- `listing::put_row` puts a row's text where it fits. Assumes nothing.
+-- `row_text::put_row` puts a row's text where it fits. Assumes nothing.
 use mathlib.Core.Path.{sym, _∙_}
 use Prim.Native.Nat.{_-_, _<_, _≤_}
 use native.Mathlib.Omega.{arith}
@@ -8,8 +8,8 @@ use borrow.Author.Needs.{needs}
 use borrow.Author.Tests.{leb-true, leb-false}
 use Rattle.definitions.specs.Listing.{rowText}
 use Rattle.text.specs.Place.{put, not-put}
-use Rattle.listing.proofs.put_row.Statement.{statement}
-use Rattle.listing.proofs.put_row.Tie as tie
+use Rattle.row_text.proofs.put_row.Statement.{statement}
+use Rattle.row_text.proofs.put_row.Tie as tie
 
 returns : tie.Need-returns
 returns c = let a = c .before .before .before .args in not-put (a .at) (rowText (now (a .row))) (now (a .out)) (omega arith)
