@@ -1,4 +1,5 @@
--- Laws of catalogues.
+-- Laws of catalogues: sizes, the form, lookups and readers; then the bytes of a catalogue, and back.
+-- Words: a place is a byte offset, of an entry in the file or of a row in its body; a row of a body is its bytes, a `Row` its numbers.
 pub mod Sizes
 pub mod Form
 pub mod Reading
