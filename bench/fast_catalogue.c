@@ -52,7 +52,7 @@ FenyurkaBody fenyurka_lookup(const uint8_t *file, size_t length, uint32_t degree
         if (e[0] == degree) {
             FenyurkaBody body = {.top = e[1], .rows = pair_at(e + 2), .row_size = e[1] + 4u};
             body.offset = pair_at(e + 4) << 16 | pair_at(e + 6);
-            body.length = (size_t)body.rows * body.row_size;
+            body.length = body.rows * body.row_size;
             return body;
         }
     return (FenyurkaBody){.refusal = 10};

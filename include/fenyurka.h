@@ -129,11 +129,11 @@ FenyurkaCatalogue fenyurka_open(const uint8_t *file, size_t file_length);
 
 typedef struct FenyurkaBody {
     uint32_t refusal;
-    uint32_t top;      /* the top dimension T of the rows */
-    uint32_t rows;     /* how many rows the body has, 0 or more */
-    uint32_t row_size; /* bytes of a row */
-    size_t offset;     /* where the body begins in the file */
-    size_t length;     /* bytes of the body, rows * row_size; all of them lie within the file */
+    uint32_t top;    /* the top dimension T of the rows */
+    uint32_t rows;   /* how many rows the body has, 0 or more */
+    size_t offset;   /* where the body begins in the file */
+    size_t length;   /* bytes of the body, rows * row_size; all of them lie within the file */
+    size_t row_size; /* bytes of a row */
 } FenyurkaBody;
 
 /*

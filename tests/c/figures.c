@@ -87,7 +87,7 @@ static void catalogue(void)
     hold("open", reference_open(file, sizeof file, &entries), 0);
     hold("entries", entries, 1);
     hold("lookup", reference_lookup(file, sizeof file, 3, &body), 0);
-    hold("row size", body.row_size, 8);
+    hold("row size", (uint32_t)body.row_size, 8);
     hold("offset", (uint32_t)body.offset, 9);
     hold("length", (uint32_t)body.length, 32);
     for (uint32_t r = 0; r < body.rows; r++) {

@@ -39,8 +39,8 @@ uint32_t reference_open(const uint8_t *file, size_t length, uint32_t *entries);
 
 /* The body of a degree: its top dimension, its rows and the bytes of one, where it begins in the file and its bytes. */
 struct reference_body {
-    uint32_t top, rows, row_size;
-    size_t offset, length;
+    uint32_t top, rows;
+    size_t offset, length, row_size;
 };
 uint32_t reference_lookup(const uint8_t *file, size_t length, uint32_t degree, struct reference_body *body);
 

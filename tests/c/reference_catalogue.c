@@ -61,7 +61,7 @@ uint32_t reference_lookup(const uint8_t *file, size_t length, uint32_t m, struct
             body->rows = number_at(entry, 2, 2);
             body->row_size = 2 + 2 + 2 + (body->top - LEAST_TOP + 1);
             body->offset = number_at(entry, 4, 4);
-            body->length = (size_t)body->rows * body->row_size;
+            body->length = body->rows * body->row_size;
             return 0;
         }
     }

@@ -14,9 +14,9 @@ use Rattle.catalogue.specs.Seek.{seeking, numbersOf, partOf, lookup-numbers, lo
 use Rattle.results.specs.Results.{value, bodyResult, noBody}
 use Rattle.results.specs.declared.catalogues.FenyurkaBody.{FenyurkaBody}
 
--- The body of an entry: T, rows, the size of a row, its place in the file and its length.
+-- The body of an entry: T and rows; its place in the file, its length and the size of a row.
 abbrev pub bodyOf : Entry → FenyurkaBody
-bodyOf e = bodyResult (e .top) (e .rows) (rowSize (e .top)) (e .offset) (bodySize e)
+bodyOf e = bodyResult (e .top) (e .rows) (e .offset) (bodySize e) (rowSize (e .top))
 
 -- The body of the degree's entry, or the lookup's refusal.
 unfoldable pub located : List ℕ → ℕ → FenyurkaBody

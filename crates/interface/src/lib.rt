@@ -112,7 +112,7 @@ fn entry_body(file: &[u8], i: usize) -> FenyurkaBody
     let rows = form::entry_rows(file, i);
     let offset = form::entry_offset(file, i) as usize;
     let length = form::body_size(file, i);
-    catalogues::body(top, rows, top + 4, offset, length)
+    catalogues::body(top, rows, offset, length, top as usize + 4)
 }
 
 // A degree's body: its top dimension and row count, where it lies in the file, and how many bytes it and a row of it have.

@@ -35,12 +35,12 @@ pointsResult values = record { refusal = value values 0; count = value values 1 
 abbrev pub catalogueResult : List ℕ → FenyurkaCatalogue
 catalogueResult values = record { refusal = value values 0; entries = value values 1 }
 
--- A body by its numbers: T, rows, the size of a row, its place in the file and its length.
+-- A body by its numbers: T and rows; its place in the file, its length and the size of a row.
 abbrev pub bodyResult : ℕ → ℕ → ℕ → ℕ → ℕ → FenyurkaBody
-bodyResult top rows size offset length = record { refusal = 0; top = top; rows = rows; «row_size» = size; offset = offset; length = length }
+bodyResult top rows offset length size = record { refusal = 0; top = top; rows = rows; offset = offset; length = length; «row_size» = size }
 
 abbrev pub noBody : Refusal → FenyurkaBody
-noBody r = record { refusal = refusalNumber r; top = 0; rows = 0; «row_size» = 0; offset = 0; length = 0 }
+noBody r = record { refusal = refusalNumber r; top = 0; rows = 0; offset = 0; length = 0; «row_size» = 0 }
 
 -- p, q, σ, t(3) .. t(8).
 abbrev pub rowNumbers : Row → List ℕ

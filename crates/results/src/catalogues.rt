@@ -31,27 +31,27 @@ pub fn catalogue(answer: Opening) -> FenyurkaCatalogue
     }
 }
 
-// A degree's body: its top dimension, its row count and the size of a row, its place in the file and its length, in bytes.
+// A degree's body: its top dimension and its row count; in bytes, its place in the file, its length and the size of a row.
 #[repr(C)]
 pub struct FenyurkaBody {
     pub refusal: u32,
     pub top: u32,
     pub rows: u32,
-    pub row_size: u32,
     pub offset: usize,
     pub length: usize,
+    pub row_size: usize,
 }
 
-pub fn body(top: u32, rows: u32, row_size: u32, offset: usize, length: usize) -> FenyurkaBody
-    ensures { λ r. ⌜ r ≡ bodyResult top rows «row_size» offset length ⌝ }
+pub fn body(top: u32, rows: u32, offset: usize, length: usize, row_size: usize) -> FenyurkaBody
+    ensures { λ r. ⌜ r ≡ bodyResult top rows offset length «row_size» ⌝ }
 {
     FenyurkaBody {
         refusal: 0,
         top,
         rows,
-        row_size,
         offset,
         length,
+        row_size,
     }
 }
 
@@ -62,9 +62,9 @@ pub fn no_body(refusal: Refusal) -> FenyurkaBody
         refusal: answers::refusal_number(refusal),
         top: 0,
         rows: 0,
-        row_size: 0,
         offset: 0,
         length: 0,
+        row_size: 0,
     }
 }
 

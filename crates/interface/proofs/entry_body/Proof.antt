@@ -13,4 +13,4 @@ pub entry-body-spec : {M : Type 1} → statement M
 entry-body-spec =
     tie.close
     (tie.spec (λ c κs. search needs) (λ c κs. search needs) (λ c κs. search needs) (λ c. search needs) (λ c κs. search needs) (λ c. search needs)
-    (λ c κs. search needs) returns)
+    (λ c. search needs) (λ c κs. search needs) returns)
