@@ -1,56 +1,65 @@
-// Finding a degree among the entries of a catalogue that comes unchecked.
-use crate::form;
+// Where a degree's body lies in a catalogue that comes unchecked.
+use catalogue_bytes::sizes;
+use catalogue_form::entries;
 use definitions::Refusal;
 ghost use mathlib.Core.Path.{_≡_};
 ghost use Prim.Native.Nat.{_≤_};
 ghost use lib.ListN.{length};
-ghost use Rattle.definitions.specs.Catalogue.{byteAt, contentsSize, entryOf, readerTop};
-ghost use Rattle.catalogue.specs.Seek.{seeking};
+ghost use Rattle.definitions.specs.Catalogue.{contentsEnd, entryOf};
+ghost use Rattle.catalogue.specs.Seek.{locating};
 
-// Where a degree's entry is, or why the lookup is refused.
-pub enum Sought {
-    At(usize),
+// A body: its place in the file and its size, the size of a row (from one row to the next), the top dimension and the row count.
+pub struct BodyPlace {
+    pub offset: usize,
+    pub size: usize,
+    pub stride: usize,
+    pub top: u32,
+    pub rows: u32,
+}
+
+// Where a degree's body is, or why the lookup is refused.
+pub enum Located {
+    At(BodyPlace),
     Missing(Refusal),
 }
 
+// The place of the degree's entry; 0, where no entry lies, where it is missing.
 pub fn entry_of(s: &[u8], degree: u32) -> usize
-    requires { ⌜ contentsSize (byteAt (now s) 0) ≤ length (now s) ⌝ }
+    requires { ⌜ (1 ≤ length (now s)) × (contentsEnd (now s) ≤ length (now s)) ⌝ }
     ensures { λ r. ⌜ r ≡ entryOf (now (s .entry)) degree ⌝ }
 {
-    let mut left = form::byte(s, 0) as usize;
-    let mut i = 0;
+    let mut left = catalogue_bytes::byte(s, 0) as usize;
+    let mut place = sizes::FIRST_ENTRY;
     while left > 0 {
-        if form::entry_degree(s, i) == degree {
-            return i;
+        let here = catalogue_bytes::byte(s, place);
+        if here == degree {
+            return place;
         }
         left -= 1;
-        i += 1;
+        place += sizes::entry_size(here);
     }
-    i
+    0
 }
 
-pub fn seek(s: &[u8], degree: u32) -> Sought
-    ensures { λ r. ⌜ r ≡ seeking (now (s .entry)) degree ⌝ }
+pub fn locate(file: &[u8], degree: u32) -> Located
+    ensures { λ r. ⌜ r ≡ locating (now (file .entry)) degree ⌝ }
 {
     if !limits::is_lawful_degree(degree) {
-        return Sought::Missing(Refusal::WrongDegree);
+        return Located::Missing(Refusal::WrongDegree);
     }
-    if !form::catalogue_form(s) {
-        return Sought::Missing(Refusal::IllFormedCatalogue);
+    if !catalogue_form::catalogue_form(file) {
+        return Located::Missing(Refusal::IllFormedCatalogue);
     }
-    let i = entry_of(s, degree);
-    if i == form::byte(s, 0) as usize {
-        return Sought::Missing(Refusal::DegreeMissing);
+    let place = entry_of(file, degree);
+    if place == 0 {
+        return Located::Missing(Refusal::DegreeMissing);
     }
-    Sought::At(i)
-}
-
-// The top dimension of the body that a lookup gives; 0 where it is refused.
-pub fn reader_top(s: &[u8], degree: u32) -> u32
-    ensures { λ r. ⌜ r ≡ readerTop (now (s .entry)) degree ⌝ }
-{
-    match seek(s, degree) {
-        Sought::At(i) => form::entry_top(s, i),
-        Sought::Missing(_) => 0,
-    }
+    let e = entries::entry_at(file, place);
+    Located::At(BodyPlace {
+        offset: e.offset as usize,
+        size: entries::body_size(e),
+        stride: sizes::row_size(e.degree, e.top),
+        top: e.top,
+        rows: e.rows,
+    })
 }

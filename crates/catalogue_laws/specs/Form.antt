@@ -1,22 +1,26 @@
 -- The form of a catalogue, read out: numbers in bytes, rows, entries, and what a well-formed catalogue says of each entry.
 -- Each test of the form by its definition; the entries by the recursion over them, the place of an entry and that of its body going along.
 -- Assumes nothing.
-use mathlib.Core.Path.{_≡_, refl}
+use mathlib.Core.Path.{_≡_, refl, ap₂}
 use mathlib.Core.Bool.{Bool, true, false, _&&_, and-eq-true-iff}
 use mathlib.Core.List.{List}
 use Prim.Native.Nat.{ℕ, zero, suc, _+_, _-_, _*_, _^_, _<_, _≤_}
-use native.Mathlib.Nat.{zero-add, add-zero}
+use native.Mathlib.Nat.{zero-add, add-zero, lt-of-lt-of-le}
 use native.Mathlib.Numerals.{add-one}
 use native.Mathlib.Omega.{arith}
-use lib.Dec.{eqb, leb, ltb}
+use lib.Dec.{eqb, leb, ltb, leb·suc-suc}
+use lib.Pow.{pow-mono, pow-add}
 use lib.ListN.{length}
 use borrow.Author.Tests.{leb-true, ltb-true, eqb-true, lt-ltb, le-ltb, lt-leb, le-leb, eq-eqb, ne-eqb}
 use Rattle.definitions.specs.Number.{every}
 use Rattle.definitions.specs.Generator.{lawfulDegree}
 use Rattle.definitions.specs.Ranking.{leastTop, lawfulTop}
-use Rattle.definitions.specs.Catalogue.{byteAt, numberAt, numberSize, numbersSize, rowSize, Entry, entryAt, firstEntry, behindEntry, behindEntries}
+use Rattle.definitions.specs.Catalogue.{byteAt, numberAt, numberSize, countSize, offsetSize, entrySize, numbersSize, rowSize, Entry, entryAt, firstEntry}
+use Rattle.definitions.specs.Catalogue.{behindEntry}
+use Rattle.definitions.specs.Catalogue.{behindEntries}
 use Rattle.definitions.specs.Catalogue.{contentsEnd, bodySize, mostEntries, rowForm, entryForm, entriesForm, catalogueForm}
 use Rattle.number_laws.specs.Bounds.{LawfulDegree, LawfulTop, lawfulDegree-is, lawfulTop-is}
+use Rattle.catalogue_laws.specs.Sizes.{widest, entry-size-is}
 
 -- ---- numbers
 
@@ -27,6 +31,16 @@ number-none s i = refl
 pub number-more : (w : ℕ) (s : List ℕ) (i : ℕ) → numberAt (w + 1) s i ≡ numberAt w s i * 256 + byteAt s (i + w)
 unfolding numberAt
 number-more w s i = rw add-one
+
+-- One byte more keeps a number of k bytes below 2^8k, and one of at most three within a machine word of 32 digits.
+pub number-below : (n b k : ℕ) → n < 2 ^ (8 * k) → b < 256 → n * 256 + b < 2 ^ (8 * (k + 1))
+number-below n b k h l =
+    let e : 8 * (k + 1) ≡ 8 * k + 8 = omega arith in
+    let f : 2 ^ (8 * k + 8) ≡ 2 ^ (8 * k) * 256 = pow-add 2 (8 * k) 8 in
+    rw (e, f) (omega arith)
+
+pub number-room : (n b k : ℕ) → n < 2 ^ (8 * k) → b < 256 → k < widest → n * 256 + b < 2 ^ 32
+number-room n b k h l w = lt-of-lt-of-le (number-below n b k h l) (pow-mono {i = 8 * (k + 1)} {j = 32} (omega arith))
 
 pub number-one : (s : List ℕ) (i : ℕ) → numberAt 1 s i ≡ byteAt s i
 unfolding numberAt
@@ -41,6 +55,18 @@ numbersForm m s at = every 3 (λ (k : ℕ). ltb (numberAt (numberSize m) s (at +
 -- Each t is at most m.
 abbrev pub valuesForm : ℕ → ℕ → List ℕ → ℕ → Bool
 valuesForm m top s at = every (suc top - leastTop) (λ (k : ℕ). leb (byteAt s (at + numbersSize m + k)) m)
+
+-- Both, as a walk tests them: with a number's width and 2^m at hand, and 'below m + 1' for 'at most m'.
+pub numbers-form-is : (m : ℕ) (s : List ℕ) (at w limit : ℕ) → w ≡ numberSize m → limit ≡ 2 ^ m
+    → every 3 (λ (k : ℕ). ltb (numberAt w s (at + k * w)) limit) ≡ numbersForm m s at
+numbers-form-is m s at w limit e f = ap₂ (λ (v b : ℕ). every 3 (λ (k : ℕ). ltb (numberAt v s (at + k * v)) b)) e f
+
+below-is-at-most : (x m : ℕ) → ltb x (m + 1) ≡ leb x m
+below-is-at-most x m = rw add-one (leb·suc-suc x m)
+
+pub values-form-is : (m top : ℕ) (s : List ℕ) (at place n : ℕ) → place ≡ at + numbersSize m → n ≡ suc top - leastTop
+    → every n (λ (k : ℕ). ltb (byteAt s (place + k)) (m + 1)) ≡ valuesForm m top s at
+values-form-is m top s at place n e f = simp (below-is-at-most, e, f)
 
 module _ (m top : ℕ) (s : List ℕ) (at : ℕ) where
   pub row-stop : numbersForm m s at ≡ false → rowForm m top s at ≡ false
@@ -130,6 +156,17 @@ pub entry-at-degree : (s : List ℕ) (i : ℕ) → entryAt s i .degree ≡ byteA
 unfolding entryAt
 entry-at-degree s i = refl
 
+-- An entry whose fields were read at a place is the entry there.
+pub entry-at-is : (s : List ℕ) (i : ℕ) (e : Entry) → e .degree ≡ byteAt s i → e .top ≡ byteAt s (i + 1)
+    → e .rows ≡ numberAt (countSize (e .degree)) s (i + 2) → e .offset ≡ numberAt offsetSize s (i + 2 + countSize (e .degree)) → e ≡ entryAt s i
+unfolding entryAt
+entry-at-is s i e d t r o = rw (← d, ← t, ← r, ← o)
+
+-- The fields of an entry that ends within the file do so too.
+pub entry-whole : (s : List ℕ) (i degree : ℕ) → behindEntry s i ≤ length s → degree ≡ byteAt s i
+    → i + 2 + countSize degree + offsetSize ≤ length s
+entry-whole s i degree h e = rw e (omega (arith, entry-size-is (byteAt s i)))
+
 -- ---- the places of entries
 
 -- The place behind k entries is not before the first of them, and where there is one, not before the place behind that one.
@@ -168,6 +205,18 @@ pub entries-stop : (s : List ℕ) (k i last at : ℕ) → 0 < k → entryForm s 
 unfolding entriesForm
 entries-stop s zero i last at l e = absurd (omega arith)
 entries-stop s (suc k) i last at l e = rw e
+
+-- One turn of such a walk, which has read the entry e, its body's size and its own size `step`.
+module _ (s : List ℕ) (i : ℕ) (e : Entry) (is : e ≡ entryAt s i) (step : ℕ) (step-is : step ≡ entrySize (e .degree)) where
+  pub behind-step : i + step ≡ behindEntry s i
+  unfolding entryAt
+  behind-step = rw (step-is, is)
+
+  pub entries-step : (k last at size : ℕ) → size ≡ bodySize e → 0 < k → entryForm s e last at ≡ true
+      → entriesForm s k i last at ≡ entriesForm s (k - 1) (i + step) (e .degree) (at + size)
+  entries-step k last at size size-is l t =
+      let passed : entryForm s (entryAt s i) last at ≡ true = rw is at t in
+      rw (behind-step, size-is, is) (entries-on s k i last at l passed)
 
 -- The first of the entries passes, and so do those behind it.
 pub entries-out : (s : List ℕ) (k i last at : ℕ) → entriesForm s (suc k) i last at ≡ true

@@ -64,10 +64,18 @@ module _ (m : ℕ) where
         let most : rows * rowSize m top ≤ rows * 18 = mul-le-mul-left rows size in
         omega arith
 
--- One row less, and at most as many.
-pub size-less : (n w : ℕ) → 0 < n → n * w ≡ (n - 1) * w + w
-size-less zero w l = absurd (omega arith)
-size-less (suc n) w l = let d : suc n - 1 ≡ n = omega arith in rw d (suc-mul n w)
+-- ---- a walk over n parts of w bytes each from `at` on, the last part first
 
-pub size-most : (n k w : ℕ) → n ≤ k → n * w ≤ k * w
-size-most n k w l = mul-le-mul-right w l
+-- What is known where `left` parts are left and `place` lies behind them.
+pub record BackTurn (at w left place length : ℕ) : Type 0 where
+  pub room : w ≤ place
+  pub within : place - w + w ≤ length
+  pub next : place - w ≡ at + (left - 1) * w
+
+pub back-turn : (at n w left place length : ℕ) → 0 < left → left ≤ n → place ≡ at + left * w → at + n * w ≤ length → BackTurn at w left place length
+back-turn at n w zero place length l h e f = absurd (omega arith)
+back-turn at n w (suc left) place length l h e f =
+    let d : suc left - 1 ≡ left = omega arith in
+    let less : suc left * w ≡ left * w + w = suc-mul left w in
+    let most : suc left * w ≤ n * w = mul-le-mul-right w h in
+    record { room = omega arith; within = omega arith; next = rw d (omega arith) }

@@ -1,72 +1,84 @@
--- `catalogue::seek::entry_of` meets its contract. The invariant: no entry before i has the degree, so the search goes on with the `left` from i on.
--- Assumes nothing.
-use mathlib.Core.Path.{_≡_, refl, sym, _∙_}
-use Prim.Native.Nat.{_+_}
+-- `catalogue::seek::entry_of` meets its contract. The invariant: no entry before `place` has the degree, so the search goes on with the `left` from
+-- there on, which are within the file. Assumes nothing.
+use mathlib.Core.Path.{_≡_, refl, sym, ap, _∙_}
+use mathlib.Core.List.{List}
+use Prim.Native.Nat.{ℕ, _+_, _-_, _≤_}
 use native.Mathlib.Omega.{arith}
-use Rattle.definitions.specs.Number.{first}
-use Rattle.definitions.specs.Catalogue.{byteAt}
-use Rattle.catalogue_laws.specs.Lookup.{hasDegree, entry-of, look-end, look-stop, look-on}
+use lib.ListN.{length}
 use borrow.Author.Needs.{needs}
+use Rattle.definitions.specs.Catalogue.{byteAt, entrySize, firstEntry, behindEntry, behindEntries, entryFrom, entryOf}
+use Rattle.catalogue_laws.specs.Sizes.{entry-size-least}
+use Rattle.catalogue_laws.specs.Form.{behind-first, behind-on}
+use Rattle.catalogue_laws.specs.Lookup.{entry-of, look-end, look-stop, look-on}
 use Rattle.catalogue.proofs.seek.entry_of.Statement.{statement}
 use Rattle.catalogue.proofs.seek.entry_of.Tie as tie
 
 abbrev RestDecides : tie.InvT-loop
-RestDecides s degree left₀ i₀ left i = (left + i ≡ byteAt s 0) × (first (byteAt s 0) 0 (hasDegree s degree) ≡ first left i (hasDegree s degree))
+RestDecides s degree left₀ place₀ left place = (behindEntries s left place ≤ length s) × (entryOf s degree ≡ entryFrom s left place degree)
 
 abbrev remaining : tie.MeasureT-loop
-remaining s degree left₀ i₀ left i = left
+remaining s degree left₀ place₀ left place = left
 
-byte-requires : tie.Need-byte-requires RestDecides remaining
-byte-requires c κs = search needs
+abbrev start : tie.At-loop RestDecides remaining → tie.Start RestDecides remaining
+start turn = turn .before .before .before
 
-cast-left : tie.Need-cast-left RestDecides remaining
-cast-left c = search needs
+abbrev file : tie.At-loop RestDecides remaining → List ℕ
+file turn = start turn .args .s .now
 
 loop-holds : tie.Need-loop-holds RestDecides remaining
-loop-holds c = let e = c .byte .ensures .0 in (omega arith, rw e refl)
+loop-holds c =
+    let a = c .before .before .args in
+    let n = c .byte .ensures .0 in
+    let ends = ap (λ (k : ℕ). behindEntries (a .s .now) k firstEntry) n in
+    (omega (arith, ends, c .before .before .pre .1), entry-of (a .s .now) (a .degree) ∙ ap (λ (k : ℕ). entryFrom (a .s .now) k firstEntry (a .degree)) (sym n))
 
-entry-degree-requires : tie.Need-entry-degree-requires RestDecides remaining
-entry-degree-requires c κs = search needs
+-- The entry of this turn ends within the file.
+whole : (c : tie.In-loop RestDecides remaining) → behindEntry (file (c .before)) (c .before .loop .place) ≤ length (file (c .before))
+whole c =
+    let l = c .before .loop in
+    omega (arith, l .inv .0, behind-first (file (c .before)) (l .left) (l .place) (search needs))
+
+byte-requires-2 : tie.Need-byte-requires-2 RestDecides remaining
+byte-requires-2 c κs = omega (arith, whole c, entry-size-least (byteAt (file (c .before)) (c .before .loop .place)))
 
 returns : tie.Need-returns RestDecides remaining
-returns c = let at = c .before .before .before in
-    let a = at .before .before .before .args in
-    let l = at .loop in
-    sym (entry-of (a .s .now) (a .degree) ∙ l .inv .1 ∙ look-stop (a .s .now) (a .degree) (l .left) (l .i) (search needs) (sym (c .before .entry-degree .ensures) ∙ c .if1 .taken))
+returns c =
+    let turn = c .before .before .before in
+    let l = turn .loop in
+    sym (l .inv .1 ∙ look-stop (file turn) (start turn .args .degree) (l .left) (l .place) (search needs) (sym (c .before .byte2 .ensures .0) ∙ c .if1 .taken))
 
-sub-left : tie.Need-sub-left RestDecides remaining
-sub-left c = search needs
+-- The next entry lies behind this one.
+abbrev turn-at-end : tie.After-entry-size RestDecides remaining → tie.At-loop RestDecides remaining
+turn-at-end c = c .before .before .before .before
 
-add-i : tie.Need-add-i RestDecides remaining
-add-i c = search needs
+next-is : (c : tie.After-entry-size RestDecides remaining)
+    → turn-at-end c .loop .place + c .entry-size .result ≡ behindEntry (file (turn-at-end c)) (turn-at-end c .loop .place)
+next-is c =
+    ap (λ (n : ℕ). turn-at-end c .loop .place + n) (c .entry-size .ensures ∙ ap entrySize (c .before .before .byte2 .ensures .0))
 
-loop-less : tie.Need-loop-less RestDecides remaining
-loop-less c = search needs
+add-place : tie.Need-add-place RestDecides remaining
+add-place c = omega (arith, next-is c, whole (c .before .before .before))
 
 loop-again : tie.Need-loop-again RestDecides remaining
-loop-again c = let at = c .before .before .before in
-    let a = at .before .before .before .args in
-    let l = at .loop in
-    (omega arith, l .inv .1 ∙ look-on (a .s .now) (a .degree) (l .left) (l .i) (search needs) (λ e. c .if1 .left (c .before .entry-degree .ensures ∙ e)))
+loop-again c =
+    let turn = turn-at-end c in
+    let s = file turn in
+    let m = start turn .args .degree in
+    let l = turn .loop in
+    let rest = ap (behindEntries s (l .left - 1)) (next-is c) in (
+      omega (arith, l .inv .0, rest, behind-on s (l .left) (l .place) (search needs)),
+      l .inv .1
+      ∙ look-on s m (l .left) (l .place) (search needs) (λ e. c .before .if1 .left (c .before .before .byte2 .ensures .0 ∙ e))
+      ∙ ap (λ (n : ℕ). entryFrom s (l .left - 1) n m) (sym (next-is c)),
+    )
 
 returns-2 : tie.Need-returns-2 RestDecides remaining
-returns-2 c = let a = c .before .before .before .before .args in
+returns-2 c =
     let l = c .before .loop in
-    sym (entry-of (a .s .now) (a .degree) ∙ l .inv .1 ∙ look-end (a .s .now) (a .degree) (l .left) (l .i) (omega arith))
+    sym (l .inv .1 ∙ look-end (file (c .before)) _ (l .left) (l .place) (omega arith))
 
 pub entry-of-spec : {M : Type 1} → statement M
 entry-of-spec =
     tie.close
-    (tie.spec
-    RestDecides
-    remaining
-    byte-requires
-    cast-left
-    loop-holds
-    entry-degree-requires
-    returns
-    sub-left
-    add-i
-    loop-less
-    loop-again
-    returns-2)
+    (tie.spec RestDecides remaining (λ c κs. search needs) (λ c. search needs) loop-holds byte-requires-2 returns (λ c. search needs)
+    (λ c κs. search needs) add-place (λ c. search needs) loop-again returns-2)

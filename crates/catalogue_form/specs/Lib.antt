@@ -1,0 +1,2 @@
+-- What the contracts of the form's functions cite.
+pub mod Entries

@@ -1,0 +1,26 @@
+// Whether bytes are a catalogue: rows, entries, and the form of the whole. The bytes come unchecked.
+pub mod entries;
+pub mod rows;
+
+ghost use mathlib.Core.Path.{_≡_};
+ghost use Rattle.definitions.specs.Catalogue.{catalogueForm};
+
+// As many as there are lawful degrees.
+const MOST_ENTRIES: usize = (limits::LARGEST_DEGREE - limits::LEAST_DEGREE + 1) as usize;
+
+pub fn catalogue_form(s: &[u8]) -> bool
+    ensures { λ r. ⌜ r ≡ catalogueForm (now (s .entry)) ⌝ }
+{
+    if s.len() < 1 {
+        return false;
+    }
+    let n = catalogue_bytes::byte(s, 0) as usize;
+    if n > MOST_ENTRIES {
+        return false;
+    }
+    let end = entries::contents_end(s, n);
+    if s.len() < end {
+        return false;
+    }
+    entries::entries_form(s, n, end)
+}
