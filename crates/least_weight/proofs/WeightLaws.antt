@@ -88,11 +88,12 @@ module _ (p : ℕ) (powers : List ℕ) (f : ℕ) where
         })
 
     -- nothing that follows the row can be lighter
-    pub passed : (b₂ : List ℕ) (k : ℕ) → low ≤ e + 1 + f → LightestFound p powers f (j - 1) (firstDigitRow powers (j - 1)) e b b₂ low k → LightestFound p powers f j r e b b₂ w k
+    pub passed : (b₂ : List ℕ) (k : ℕ) → low ≤ e + 1 + f → LightestFound p powers f (j - 1) (firstDigitRow powers (j - 1)) e b b₂ low k
+        → LightestFound p powers f j r e b b₂ w k
     passed b₂ k full = turned b b₂ low k (omega arith) (sym (ends _ j _ (suc e) _ low (inr (omega arith)))) refl refl
 
-    pub followed : (b₁ b₂ : List ℕ) (next taken k : ℕ) → next ≡ nextDigitRow p r → e < length b → LightestFound p powers f j next (e + 1) (set b e v) b₁ low taken
-        → LightestFound p powers f (j - 1) (firstDigitRow powers (j - 1)) e b₁ b₂ taken k → LightestFound p powers f j r e b b₂ w k
+    pub followed : (b₁ b₂ : List ℕ) (next taken k : ℕ) → next ≡ nextDigitRow p r → e < length b
+        → LightestFound p powers f j next (e + 1) (set b e v) b₁ low taken → LightestFound p powers f (j - 1) (firstDigitRow powers (j - 1)) e b₁ b₂ taken k → LightestFound p powers f j r e b b₂ w k
     followed b₁ b₂ next taken k moves long takes =
         turned b₁ b₂ taken k (takes .less) (rw (newest-set b e v long, add-one e, moves) at (takes .found))
         (newest-older b₁ (set b e v) e (takes .kept) ∙ newest-kept b e v) (takes .sized ∙ length-set b e v)

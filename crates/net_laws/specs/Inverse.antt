@@ -66,4 +66,5 @@ module _ (p : ℕ) (pos : 0 < p) (q back : ℕ) (inverse : rem (prod back q) p �
       go (d ∷ ds) len e =
           let weight : length all ≡ d + total ds = ap length e ∙ length-shareRows (digitRow p q) 1 (d ∷ ds) in
           free-up d ds (omega (arith, least .most))
-          (least .lighter (shareRows (digitRow p q) 1 ds) (share-reach (digitRow p q) j ds (omega arith)) d (omega (arith, length-shareRows (digitRow p q) 1 ds)))
+          (least .lighter (shareRows (digitRow p q) 1 ds) (share-reach (digitRow p q) j ds (omega arith)) d
+          (omega (arith, length-shareRows (digitRow p q) 1 ds)))

@@ -120,7 +120,8 @@ module _ (p : ℕ) (pos : 0 < p) (q : ℕ) where
   box-cell : (d r : ℕ) {ds rs : List ℕ} → d ≤ degree p → r < 2 ^ d → Box ds rs → Cell p d (shareRows (digitRow p q) 1 ds) (inBox p q 0 (d ∷ ds) (r ∷ rs))
   unfolding inBox
   box-cell d r {ds} {rs} fits l b =
-      subst (Cell p d (shareRows (digitRow p q) 1 ds)) (fun-ext (λ h. and-comm (inBox p q 1 ds rs h) (begins 0 d r h))) (boxes-cell b 1 (powers-cell d r fits l))
+      subst (Cell p d (shareRows (digitRow p q) 1 ds)) (fun-ext (λ h. and-comm (inBox p q 1 ds rs h) (begins 0 d r h)))
+      (boxes-cell b 1 (powers-cell d r fits l))
 
   -- ---- what a box has
   pub free-box : (d : ℕ) {ds : List ℕ} → d ≤ degree p → FreeShare p q d ds → {rs : List ℕ} → Box (d ∷ ds) rs

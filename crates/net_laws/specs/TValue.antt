@@ -40,11 +40,14 @@ module _ (m p : ℕ) (of : HasDegree p m) (q : ℕ) where
       out : t ≤ degree p → Net (degree p) p q (suc j) t → AllFree rows j (degree p - t)
       out le net all x c sum =
           let share = reach-share rows x in
-          rw (share .2) (net-free p (positive of) q j t le .0 net c (share .0) (share .1) (omega (arith, ap length (share .2), length-shareRows rows 1 (share .0))))
+          rw (share .2)
+          (net-free p (positive of) q j t le .0 net c (share .0) (share .1)
+          (omega (arith, ap length (share .2), length-shareRows rows 1 (share .0))))
 
       back : t ≤ degree p → AllFree rows j (degree p - t) → Net (degree p) p q (suc j) t
       back le free =
-          net-free p (positive of) q j t le .1 (λ d ds len sum. free (shareRows rows 1 ds) (share-reach rows j ds len) d (omega (arith, length-shareRows rows 1 ds)))
+          net-free p (positive of) q j t le .1
+          (λ d ds len sum. free (shareRows rows 1 ds) (share-reach rows j ds len) d (omega (arith, length-shareRows rows 1 ds)))
 
   -- ---- the least weight and the t-value tell each other: w(s) = m + 1 - t(s)
   pub least-tValue : (j : ℕ) → Least rows m j (suc m - tValue m p q (suc j))
@@ -53,7 +56,8 @@ module _ (m p : ℕ) (of : HasDegree p m) (q : ℕ) where
       let S = tValue-smallest m p q (suc j) (positive of) in
       record {
         most = omega arith;
-        lighter = λ all x c l. free-fewer c (m - t - length all) all (omega arith) (net-allFree j t (S .most) .0 (S .net) all x (m - t - length all) (omega arith));
+        lighter = λ all x c l.
+            free-fewer c (m - t - length all) all (omega arith) (net-allFree j t (S .most) .0 (S .net) all x (m - t - length all) (omega arith));
         some = λ l free.
             let e : suc m - t ≡ m - (t - 1) = omega arith in
             omega (arith, S .least (t - 1) (net-allFree j (t - 1) (omega (arith, S .most)) .1 (rw e at free)));
@@ -81,4 +85,6 @@ module _ (m p : ℕ) (of : HasDegree p m) (q : ℕ) where
   pub leastWeight-tValue : (start : ℕ → ℕ) (f room j W : ℕ) → m ≤ room → StopBound m p q f → ((i : ℕ) → i < suc (suc j) → start i ≡ digitRow p q i 0)
       → W ≡ suc m - tValue m p q (suc j) → leastWeight start (λ r. rem (2 * r) p) f room (suc j) W ≡ suc m - tValue m p q (suc (suc j))
   leastWeight-tValue start f room j W fits sound starts e =
-      tValue-least (suc j) _ (leastWeight-least rows m start (λ r. rem (2 * r) p) (λ j d. sym (digitRow-suc p (positive of) q j d)) f room fits sound j W starts (rw e (least-tValue j)))
+      tValue-least (suc j) _
+      (leastWeight-least rows m start (λ r. rem (2 * r) p) (λ j d. sym (digitRow-suc p (positive of) q j d)) f room fits sound j W starts
+      (rw e (least-tValue j)))

@@ -73,4 +73,5 @@ module _ (G : ℕ → ℕ → ℕ) (m : ℕ) where
         rw (starts (suc j) (omega arith), behind (suc j) 0)
         (least-more j W _ least
         (lightest-best G start next behind f m (suc j + room) (suc j) 1 (G (suc j) 0 ∷ []) (withRow G (suc j) 0 [] W) (λ i l. starts i (omega arith))
-        (omega (arith, least .most)) (omega arith) (known-more G (suc j) 0 [] W (λ c l. tt)) (λ all x c few l. sound j W least all (take x) c few (omega arith))))
+        (omega (arith, least .most)) (omega arith) (known-more G (suc j) 0 [] W (λ c l. tt))
+        (λ all x c few l. sound j W least all (take x) c few (omega arith))))

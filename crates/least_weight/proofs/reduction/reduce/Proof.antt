@@ -21,11 +21,17 @@ loop-holds c = (omega arith, reduce-start (c .args .basis .now) (c .args .taken)
 loop-again : tie.Need-loop-again Invariant measure
 loop-again c =
     let l = c .before .before .before .loop in
-    let a = c .before .before .before .before .args in
-    (omega arith, reduce-more (a .basis .now) (a .taken) (l .left) (a .digits) (l .v) (c .if1 .v) (omega arith) (l .inv .0) (l .inv .1) (⊎-elim (λ w. omega arith) (λ w. omega arith) (c .if1 .came)))
+    let a = c .before .before .before .before .args in (
+      omega arith,
+      reduce-more (a .basis .now) (a .taken) (l .left) (a .digits) (l .v) (c .if1 .v) (omega arith) (l .inv .0) (l .inv .1)
+          (⊎-elim (λ w. omega arith) (λ w. omega arith) (c .if1 .came)),
+    )
 
 returns : tie.Need-returns Invariant measure
-returns c = let all : c .before .before .args .taken - c .before .loop .left ≡ c .before .before .args .taken = omega arith in rw all at (c .before .loop .inv .1)
+returns c =
+    let a = c .before .before .args in
+    let all : a .taken - c .before .loop .left ≡ a .taken = omega arith in
+    rw all at (c .before .loop .inv .1)
 
 pub reduce-spec : {M : Type 1} → statement M
 reduce-spec =
