@@ -1,3 +1,2 @@
--- Laws that the proofs of several functions cite.
-pub mod ArrayLaws
+-- Laws of one turn, over plain numbers.
 pub mod WeightLaws

@@ -1,43 +1,19 @@
--- One turn of each function, over plain numbers: the size of a number, one vector more that reduces, and one turn of the search for the lightest
--- digit rows.
--- Assumes nothing.
+-- One turn of the search for the lightest digit rows, over plain numbers. Assumes nothing.
 use mathlib.Core.Path.{_≡_, refl, sym, ap, ap₂, _∙_}
 use mathlib.Core.Logic.{_⊎_, inl, inr}
 use mathlib.Core.List.{List, [], _∷_}
-use Prim.Native.Nat.{ℕ, zero, suc, _+_, _-_, _^_, _≤_, _<_, min}
+use Prim.Native.Nat.{ℕ, zero, suc, _+_, _-_, _≤_, _<_, min}
 use native.Mathlib.Numerals.{add-one}
 use native.Mathlib.Omega.{arith}
-use lib.ListN.{getD, set, length, length-set}
-use lib.Bits.{bitXor}
-use lib.Count.{leadingZeros, leading-of-zero}
-use Rattle.polynomial_laws.specs.Sum.{⊕-def}
-use Rattle.polynomial.specs.Digits.{leading-degree}
-use Rattle.net_laws.specs.Reduction.{reduce, reduceBy}
+use lib.ListN.{set, length, length-set}
+use Rattle.net_laws.specs.Reduction.{reduce}
 use Rattle.net_laws.specs.Size.{size}
 use Rattle.net_laws.specs.Lightest.{lightest, lightest-stops, lightest-goes-on}
 use Rattle.net_laws.specs.Weight.{leastWeight}
-use Rattle.least_weight.specs.Weight.{basisRoom, newest, firstDigitRow, nextDigitRow, Bounds, LightestFound, LeastFound}
-use Rattle.least_weight.proofs.ArrayLaws.{newest-kept, newest-set, newest-older}
+use Rattle.digit_rows.specs.Powers.{firstDigitRow, nextDigitRow}
+use Rattle.digit_rows.specs.Basis.{basisRoom, newest, newest-kept, newest-set, newest-older}
+use Rattle.least_weight.specs.Weight.{Bounds, LightestFound, LeastFound}
 
-pub size-is : (v : ℕ) → v < 2 ^ 32 → 32 - leadingZeros 32 v ≡ size v
-unfolding size
-size-is zero l = omega (arith, leading-of-zero 32)
-size-is (suc v) l = omega (arith, leading-degree (suc v) (omega arith) l)
-
--- ---- reduction
-pub reduce-start : (b : List ℕ) (e r : ℕ) → r ≡ reduce (newest b (e - e)) r
-unfolding reduce newest
-reduce-start b e r = let none : e - e ≡ 0 = omega arith in rw none
-
-pub reduce-more : (b : List ℕ) (e left r v w : ℕ) → 0 < left → left ≤ e → v ≡ reduce (newest b (e - left)) r → w ≡ min v (bitXor v (getD b (e - left) 0))
-    → w ≡ reduce (newest b (e - (left - 1))) r
-unfolding reduce reduceBy newest
-reduce-more b e left r v w some fits before lower =
-    let i = e - left in
-    let next : e - (left - 1) ≡ suc i = omega arith in
-    rw (next, ← before, ⊕-def v (getD b i 0)) lower
-
--- ---- one turn of the search for the lightest
 module _ {f j e w : ℕ} (b : Bounds f j e w) where
   pub bounds-less : {low : ℕ} → low ≤ w → Bounds f j e low
   bounds-less less = record { some = b .some; sharp = b .sharp; one-of = b .one-of; room = b .room; light = omega (arith, b .light) }

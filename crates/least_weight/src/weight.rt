@@ -1,14 +1,16 @@
 // The least weight of digit rows that are not free, one digit row taken at a time.
-use crate::reduction::BASIS_ROOM;
-use crate::reduction::reduce;
-use crate::reduction::size;
+use digit_rows::reduction::BASIS_ROOM;
+use digit_rows::reduction::lesser;
+use digit_rows::reduction::reduce;
 use limits::COORDINATES;
 use polynomial::residues::times_x;
 ghost use mathlib.Core.Path.{_≡_};
 ghost use Prim.Native.Nat.{_<_, _≤_};
 ghost use lib.ListN.{length};
 ghost use Rattle.polynomial.specs.Modulus.{Modulus};
-ghost use Rattle.least_weight.specs.Weight.{basisRoom, Residues, Bounds, LightestFound, LeastFound};
+ghost use Rattle.digit_rows.specs.Basis.{basisRoom};
+ghost use Rattle.digit_rows.specs.Powers.{Residues};
+ghost use Rattle.least_weight.specs.Weight.{Bounds, LightestFound, LeastFound};
 
 // The least weight with the digit rows taken and what can follow them, from the digit row `digits` of the coordinate on; `least` is the least so
 // far, and what is to come weighs at least `bound`.
@@ -38,10 +40,7 @@ pub fn lightest(
     }
     let v = reduce(basis, taken, digits);
     let more = taken + 1;
-    let mut low = more + size(v);
-    if least < low {
-        low = least;
-    }
+    let low = lesser(least, more, v);
     let below = coordinate - 1;
     if more + bound >= low {
         let first = powers[below];
@@ -71,10 +70,7 @@ pub fn least_weight(
     let digits = powers[coordinate];
     let mut basis: [u32; BASIS_ROOM] = [0; BASIS_ROOM];
     basis[0] = digits;
-    let mut low = 1 + size(digits);
-    if least < low {
-        low = least;
-    }
+    let low = lesser(least, 1, digits);
     let next = times_x(digits, p, lead);
     lightest(coordinate, 1, low, next, &mut basis, powers, bound, p, lead)
 }

@@ -9,7 +9,9 @@ use Rattle.number_laws.specs.Bounds.{LawfulDegree, lead-is}
 use Rattle.polynomial_laws.specs.Degree.{HasDegree}
 use Rattle.polynomial.specs.Modulus.{Modulus, modulus}
 use Rattle.net_laws.specs.TValue.{tValue-most, leastWeight-tValue}
-use Rattle.least_weight.specs.Weight.{basisRoom, firstDigitRow, Bounds, FirstPowers, LeastFound}
+use Rattle.digit_rows.specs.Powers.{FirstPowers, firstDigitRow}
+use Rattle.digit_rows.specs.Basis.{basisRoom}
+use Rattle.least_weight.specs.Weight.{Bounds, LeastFound}
 use Rattle.net.specs.Bound.{Stop}
 
 -- What t(s) leaves of m + 1: the least weight of s coordinates.

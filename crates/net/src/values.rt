@@ -1,5 +1,5 @@
 // t-values of one pair, each from the one before.
-use least_weight::powers::powers_of;
+use digit_rows::powers::powers_of;
 use least_weight::weight::least_weight;
 use limits::COORDINATES;
 ghost use mathlib.Core.Path.{_≡_};
@@ -8,7 +8,7 @@ ghost use Rattle.definitions.specs.Net.{tValue};
 ghost use Rattle.definitions.specs.Ranking.{largestTop};
 ghost use Rattle.number_laws.specs.Bounds.{LawfulDegree, LawfulDimension};
 ghost use Rattle.polynomial_laws.specs.Degree.{HasDegree};
-ghost use Rattle.least_weight.specs.Weight.{PowersOf};
+ghost use Rattle.digit_rows.specs.Powers.{PowersOf};
 ghost use Rattle.net.specs.Bound.{Stop};
 
 // The powers of q modulo p, which are the same for every dimension.

@@ -1,7 +1,7 @@
 -- `weight::lightest` meets its contract: each way through it is one turn of the search for the lightest. What is left of the coordinates and of the
 -- array falls with every call. Assumes nothing.
 use mathlib.Core.Path.{_≡_, _∙_}
-use mathlib.Core.Logic.{⊎-elim, inl, inr}
+use mathlib.Core.Logic.{inl, inr}
 use Prim.Native.Nat.{ℕ, suc, _+_, _-_, _<_, min}
 use native.Mathlib.Omega.{arith}
 use lib.ListN.{getD, length, length-set}
@@ -11,10 +11,12 @@ use borrow.Fn.PlainCycle.{Measures, is, falls, and}
 use Rattle.polynomial.proofs.residues.times_x.Reads as times-x
 use Rattle.net_laws.specs.Size.{size}
 use Rattle.polynomial.specs.Modulus.{Modulus}
-use Rattle.least_weight.specs.Weight.{basisRoom, Residues, Bounds}
+use Rattle.digit_rows.specs.Powers.{Residues}
+use Rattle.digit_rows.specs.Basis.{basisRoom}
+use Rattle.least_weight.specs.Weight.{Bounds}
 use Rattle.least_weight.proofs.WeightLaws.{bounds-below, bounds-more, stopped, passed, followed}
-use Rattle.least_weight.proofs.reduction.reduce.Reads as reduction
-use Rattle.least_weight.proofs.reduction.size.Reads as sizing
+use Rattle.digit_rows.proofs.reduction.reduce.Reads as reduction
+use Rattle.digit_rows.proofs.reduction.lesser.Reads as lesser
 use Rattle.least_weight.proofs.weight.lightest.Reads as reads
 use Rattle.least_weight.proofs.weight.lightest.Kinds as kinds
 use Rattle.least_weight.proofs.weight.+lightest.Lts-lightest as lts
@@ -32,7 +34,7 @@ module _ (t : ℕ) where
   Below = and 2 kinds.ps (falls 2 kinds.ps _<_ measure t) reads.Pre
 
   abbrev claims : lts.Claims
-  claims = (reduction.Asked, reduction.Learnt, sizing.Asked, sizing.Learnt, Below, reads.Post, times-x.Asked, times-x.Learnt)
+  claims = (reduction.Asked, reduction.Learnt, lesser.Asked, lesser.Learnt, Below, reads.Post, times-x.Asked, times-x.Learnt)
 
   -- ---- nothing lighter is to come
   returns : lts.Need-returns claims Entry reads.Post
@@ -47,10 +49,10 @@ module _ (t : ℕ) where
 
   -- ---- with the digit row reduced: what the call asked, and what is known of the weight
   abbrev Reduced : Type 0
-  Reduced = lts.Joined3 claims Entry reads.Post
+  Reduced = lts.After-lesser claims Entry reads.Post
 
   abbrev at : Reduced → lts.Start claims Entry reads.Post
-  at c = c .before .before .before .before .before .before
+  at c = c .before .before .before .before .before
 
   abbrev modulus : (c : Reduced) → Modulus (at c .args .p) (at c .args .lead)
   modulus c = at c .pre .1 .0
@@ -64,8 +66,8 @@ module _ (t : ℕ) where
   abbrev sized : (c : Reduced) → length (at c .args .basis .now) ≡ basisRoom
   sized c = at c .pre .1 .1 .1 .1 .1
 
-  lowered : (c : Reduced) → c .if3 .low ≡ min (at c .args .least) (at c .args .taken + 1 + size (c .before .before .reduce .result))
-  lowered c = ⊎-elim (λ w. omega (arith, c .before .size .ensures .0)) (λ w. omega (arith, c .before .size .ensures .0)) (c .if3 .came)
+  lowered : (c : Reduced) → c .lesser .result ≡ min (at c .args .least) (at c .args .taken + 1 + size (c .before .reduce .result))
+  lowered c = c .lesser .ensures
 
   -- the coordinate below begins with its power
   first-below : (c : Reduced) → getD (at c .args .powers .now) (at c .args .coordinate - 1) 0 < at c .args .lead
@@ -80,11 +82,11 @@ module _ (t : ℕ) where
   returns-3 : lts.Need-returns-3 claims Entry reads.Post
   returns-3 c =
       let r = c .before .before .before .before in
-      let v = r .before .before in
+      let v = r .before in
       let a = at r .args in
-      passed (a .p) (a .powers .now) (a .bound) (a .coordinate) (a .digits) (a .taken) (a .basis .now) (a .least) (v .reduce .result) (r .if3 .low)
+      passed (a .p) (a .powers .now) (a .bound) (a .coordinate) (a .digits) (a .taken) (a .basis .now) (a .least) (v .reduce .result) (r .lesser .result)
       (v .before .before .before .if1 .left) (v .before .before .if2 .left) (v .reduce .ensures) (lowered r) (bounds r .room)
-      _ (c .lightest .result) (c .before .before .before .if4 .taken) (c .lightest .ensures)
+      _ (c .lightest .result) (c .before .before .before .if3 .taken) (c .lightest .ensures)
 
   -- ---- the digit row is taken
   lightest-requires-2 : lts.Need-lightest-requires-2 claims Entry reads.Post
@@ -107,9 +109,9 @@ module _ (t : ℕ) where
       let taken = c .before .before .before .lightest2 in
       let next = c .before .before .before .before .before .times-x in
       let r = c .before .before .before .before .before .before .before in
-      let v = r .before .before in
+      let v = r .before in
       let a = at r .args in
-      followed (a .p) (a .powers .now) (a .bound) (a .coordinate) (a .digits) (a .taken) (a .basis .now) (a .least) (v .reduce .result) (r .if3 .low)
+      followed (a .p) (a .powers .now) (a .bound) (a .coordinate) (a .digits) (a .taken) (a .basis .now) (a .least) (v .reduce .result) (r .lesser .result)
       (v .before .before .before .if1 .left) (v .before .before .if2 .left) (v .reduce .ensures) (lowered r) (bounds r .room)
       _ _ (next .result) (taken .result) (c .lightest3 .result) (next .ensures .0) (omega (arith, bounds r .room, sized r)) (taken .ensures)
       (c .lightest3 .ensures)
@@ -124,7 +126,6 @@ pub +lightest-spec : {M : Type 1} → statement M
     (λ c κs. search needs)
     (λ c. search needs)
     (λ c κs. search needs)
-    (λ c. search needs)
     (λ c. search needs)
     (λ c. search needs)
     (λ c. search needs)

@@ -9,7 +9,7 @@ use Rattle.number_laws.specs.Bounds.{LawfulDegree, lead-is}
 use Rattle.polynomial_laws.specs.Degree.{HasDegree}
 use Rattle.net_laws.specs.TValue.{tValue-most}
 use Rattle.least_weight.proofs.weight.least_weight.Reads as weight
-use Rattle.least_weight.specs.Weight.{PowersOf}
+use Rattle.digit_rows.specs.Powers.{PowersOf}
 use Rattle.net.specs.Bound.{Stop}
 use Rattle.net.proofs.ValueLaws.{modulus-of, bounds-of, value-more}
 use Rattle.net.proofs.values.next_t.Statement.{statement}

@@ -2,7 +2,7 @@
 use limits::COORDINATES;
 use polynomial::residues::mul_mod;
 ghost use Rattle.polynomial.specs.Modulus.{Modulus};
-ghost use Rattle.least_weight.specs.Weight.{PowersOf};
+ghost use Rattle.digit_rows.specs.Powers.{PowersOf};
 
 // 1, q, q^2, .. modulo p, whose leading term is `lead`: one for each coordinate.
 pub fn powers_of(q: u32, p: u32, lead: u32) -> [u32; COORDINATES]

@@ -4,10 +4,10 @@ use mathlib.Core.Logic.{⊎-elim}
 use Prim.Native.Nat.{_-_, _≤_}
 use native.Mathlib.Omega.{arith}
 use Rattle.net_laws.specs.Reduction.{reduce}
-use Rattle.least_weight.specs.Weight.{newest}
-use Rattle.least_weight.proofs.WeightLaws.{reduce-start, reduce-more}
-use Rattle.least_weight.proofs.reduction.reduce.Statement.{statement}
-use Rattle.least_weight.proofs.reduction.reduce.Tie as tie
+use Rattle.digit_rows.specs.Basis.{newest}
+use Rattle.digit_rows.proofs.ReductionLaws.{reduce-start, reduce-more}
+use Rattle.digit_rows.proofs.reduction.reduce.Statement.{statement}
+use Rattle.digit_rows.proofs.reduction.reduce.Tie as tie
 
 abbrev Invariant : tie.InvT-loop
 Invariant basis taken digits v₀ left₀ v left = (left ≤ taken) × (v ≡ reduce (newest basis (taken - left)) digits)

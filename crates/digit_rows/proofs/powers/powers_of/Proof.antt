@@ -4,10 +4,10 @@ use Prim.Native.Nat.{_-_, _≤_}
 use native.Mathlib.Omega.{arith}
 use lib.ListN.{length, length-set}
 use Rattle.definitions.specs.Ranking.{largestTop}
-use Rattle.least_weight.specs.Weight.{Residues, FirstPowers}
-use Rattle.least_weight.proofs.ArrayLaws.{powers-start, residues-start, powers-more, residues-more}
-use Rattle.least_weight.proofs.powers.powers_of.Statement.{statement}
-use Rattle.least_weight.proofs.powers.powers_of.Tie as tie
+use Rattle.digit_rows.specs.Powers.{Residues, FirstPowers}
+use Rattle.digit_rows.proofs.PowerLaws.{powers-start, residues-start, powers-more, residues-more}
+use Rattle.digit_rows.proofs.powers.powers_of.Statement.{statement}
+use Rattle.digit_rows.proofs.powers.powers_of.Tie as tie
 
 abbrev Invariant : tie.InvT-loop
 Invariant q p lead powers₀ j₀ powers j =

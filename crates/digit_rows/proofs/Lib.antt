@@ -1,0 +1,3 @@
+-- Laws of the loops, over plain numbers.
+pub mod PowerLaws
+pub mod ReductionLaws

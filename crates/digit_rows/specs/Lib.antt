@@ -1,0 +1,3 @@
+-- What the contracts of this crate and of those above cite.
+pub mod Powers
+pub mod Basis

@@ -1,0 +1,4 @@
+// The digit rows of a pair, x^i q^j modulo p for digit i of coordinate j: where each coordinate's begin, and how they reduce each other. Customers
+// call nothing here.
+pub mod powers; // the powers of q modulo p, each the first digit row of its coordinate
+pub mod reduction; // a digit row reduced by the vectors of those taken, and what they weigh
