@@ -8,9 +8,11 @@ use native.Mathlib.Omega.{arith}
 use lib.Pow.{pow-pos, pow-mono}
 use Rattle.definitions.specs.Polynomial.{_⊕_, degree, prod, Division, clear, bringDown, divide, quot, rem}
 use Rattle.polynomial_laws.specs.Digits.{Digit, off, on, digit, half-ind, half-double, double-even, byDigits-zero, byDigits-half}
-use Rattle.polynomial_laws.specs.Sum.{⊕-lt, zero-⊕, ⊕-zero, ⊕-assoc, ⊕-cancel-both, ⊕-sums, ⊕-swap, ⊕-injective, ⊕-across, ⊕-equal, ⊕-double, digit-⊕, halves}
+use Rattle.polynomial_laws.specs.Sum.{⊕-lt, zero-⊕, ⊕-zero, ⊕-assoc, ⊕-cancel-both, ⊕-sums, ⊕-swap, ⊕-injective, ⊕-across, ⊕-equal}
+use Rattle.polynomial_laws.specs.Sum.{⊕-double, digit-⊕, halves}
 use Rattle.polynomial_laws.specs.Degree.{HasDegree, degree-is, degree-unique, lt-of-shr, one-leads, add-degree, leads-cancel}
-use Rattle.polynomial_laws.specs.Product.{zero-prod, one-prod, two-prod, double-prod, digit-prod, ⊕-prod, prod-zero, prod-comm, prod-assoc, product-degree, multiple-small}
+use Rattle.polynomial_laws.specs.Product.{zero-prod, one-prod, two-prod, double-prod, digit-prod, ⊕-prod, prod-zero, prod-comm, prod-assoc}
+use Rattle.polynomial_laws.specs.Product.{product-degree, multiple-small}
 
 -- ---- one coefficient at a time
 divide-zero : (b : ℕ) → divide 0 b ≡ record { quotient = 0; remainder = 0 }

@@ -44,7 +44,7 @@ even c =
 even-parity : tie.Need-returns-2
 even-parity c =
     let pre = c .before .before .before .pre in
-    sym (even-parity-not-primitive _ _ (pre .0 .low) (pre .1) (sym (c .before .parity .ensures) ∙ c .if2 .taken))
+    sym (even-parity-not-primitive _ _ (omega (arith, pre .0 .low)) (pre .1) (sym (c .before .parity .ensures) ∙ c .if2 .taken))
 
 period-positive : tie.Need-sub-pow-x
 period-positive c = omega (arith, lead-low (start c .pre .0))
