@@ -2,7 +2,7 @@
 pub mod sizes;
 
 ghost use mathlib.Core.Path.{_≡_};
-ghost use Prim.Native.Nat.{ℕ, _+_, _*_, _<_, _≤_};
+ghost use Prim.Native.Nat.{ℕ, _+_, _*_, _^_, _<_, _≤_};
 ghost use lib.Dec.{ltb};
 ghost use lib.ListN.{length};
 ghost use Rattle.definitions.specs.Number.{every};
@@ -19,7 +19,7 @@ pub fn byte(s: &[u8], i: usize) -> u32
 // The number in the `width` bytes at a place.
 pub fn number(s: &[u8], at: usize, width: usize) -> u32
     requires { ⌜ (width ≤ widest) × (at + width ≤ length (now s)) ⌝ }
-    ensures { λ r. ⌜ r ≡ numberAt width (now (s .entry)) at ⌝ }
+    ensures { λ r. ⌜ (r ≡ numberAt width (now (s .entry)) at) × (r < 2 ^ (8 * width)) ⌝ }
 {
     let mut n: u32 = 0;
     let mut k = 0;

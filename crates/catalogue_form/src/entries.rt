@@ -1,6 +1,6 @@
 // The entries of a catalogue's contents, walked by their size: each is as long as its degree makes it.
-use catalogue_bytes::sizes;
 use crate::rows;
+use catalogue_bytes::sizes;
 ghost use mathlib.Core.Path.{_≡_};
 ghost use Prim.Native.Nat.{_+_, _≤_};
 ghost use lib.ListN.{length};

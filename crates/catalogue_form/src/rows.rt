@@ -16,7 +16,12 @@ pub fn row_form(s: &[u8], degree: u32, limit: u32, top: u32, at: usize) -> bool
     if !catalogue_bytes::numbers_below(s, at, sizes::NUMBERS, width, limit) {
         return false;
     }
-    catalogue_bytes::bytes_below(s, at + sizes::NUMBERS * width, sizes::value_count(top), degree + 1)
+    catalogue_bytes::bytes_below(
+        s,
+        at + sizes::NUMBERS * width,
+        sizes::value_count(top),
+        degree + 1,
+    )
 }
 
 // The rows of the body at `at`, the last one first.

@@ -3,7 +3,7 @@
 use mathlib.Core.Path.{_≡_, sym, _∙_}
 use mathlib.Core.Bool.{true, false, and-eq-true-iff}
 use mathlib.Core.List.{List}
-use Prim.Native.Nat.{ℕ, _+_, _-_, _%_, _<_, _≤_}
+use Prim.Native.Nat.{ℕ, _+_, _-_, _*_, _%_, _^_, _<_, _≤_}
 use native.Mathlib.Omega.{arith}
 use native.Mathlib.Decide.{decLe}
 use lib.Dec.{leb}
@@ -11,7 +11,7 @@ use lib.ListN.{length}
 use borrow.Author.Tests.{leb-true, eqb-true, lt-leb, le-leb, eq-eqb, ne-eqb}
 use Rattle.definitions.specs.Generator.{lawfulDegree}
 use Rattle.definitions.specs.Ranking.{leastTop, lawfulTop}
-use Rattle.definitions.specs.Catalogue.{numbersSize, rowSize, atRow, rowAt, nextRow, nextPlace, byteAt, tAt}
+use Rattle.definitions.specs.Catalogue.{numberAt, numberSize, numbersSize, rowSize, atRow, rowAt, nextRow, nextPlace, byteAt, tAt}
 use Rattle.definitions.specs.declared.NextRow.the-variants.{Found, End}
 use Rattle.number_laws.specs.Bounds.{LawfulDegree, LawfulTop, lawfulDegree-is, lawfulTop-is}
 
@@ -89,3 +89,12 @@ module _ (m top : ℕ) (body : List ℕ) (place s : ℕ) where
 
   pub t-within : s ≤ top → tAt m top body place s ≡ byteAt body (place + numbersSize m + (s - leastTop))
   t-within l = rw (le-leb s top l)
+
+-- A row whose fields were read at a place, a number's width being w, is the row there.
+pub row-at-is : (m top : ℕ) (body : List ℕ) (place w p q step t₃ t₄ t₅ t₆ t₇ t₈ : ℕ) → w ≡ numberSize m
+    → p ≡ 2 ^ m + numberAt w body place → q ≡ numberAt w body (place + w) → step ≡ numberAt w body (place + 2 * w)
+    → t₃ ≡ tAt m top body place 3 → t₄ ≡ tAt m top body place 4 → t₅ ≡ tAt m top body place 5
+    → t₆ ≡ tAt m top body place 6 → t₇ ≡ tAt m top body place 7 → t₈ ≡ tAt m top body place 8
+    → rowAt m top body place ≡ record { p = p; q = q; step = step; t3 = t₃; t4 = t₄; t5 = t₅; t6 = t₆; t7 = t₇; t8 = t₈ }
+unfolding rowAt
+row-at-is m top body place w p q step t₃ t₄ t₅ t₆ t₇ t₈ width e₁ e₂ e₃ e₄ e₅ e₆ e₇ e₈ e₉ = rw (e₁, e₂, e₃, e₄, e₅, e₆, e₇, e₈, e₉, width)

@@ -8,7 +8,7 @@ use native.Mathlib.Omega.{arith}
 use lib.Pow.{pow-mono}
 use Rattle.definitions.specs.Ranking.{leastTop, largestTop}
 use Rattle.definitions.specs.Catalogue.{numberSize, countSize, offsetSize, entrySize, numbersSize, rowSize}
-use Rattle.number_laws.specs.Bounds.{LawfulDegree}
+use Rattle.number_laws.specs.Bounds.{LawfulDegree, lead-high}
 
 -- The most bytes of a number that is read into a machine word of 32 digits.
 abbrev pub widest : ℕ
@@ -27,6 +27,11 @@ module _ (m : ℕ) where
   pub number-fits : LawfulDegree m → 2 ^ m ≤ 256 ^ numberSize m
   unfolding numberSize
   number-fits h = pow-mono {i = m} {j = 16} (h .high)
+
+  -- The leading term and a number of the degree's bytes together fit a machine word of 32 digits.
+  pub lead-room : LawfulDegree m → (n : ℕ) → n < 2 ^ (8 * numberSize m) → 2 ^ m + n < 2 ^ 32
+  unfolding numberSize
+  lead-room h n l = omega (arith, lead-high h)
 
   pub count-size-most : countSize m ≤ widest
   unfolding countSize

@@ -54,7 +54,7 @@ returns c =
     let a = c .before .before .before .args in
     let l = c .before .loop in
     let whole : l .k ≡ a .width = omega arith in
-    l .inv .1 ∙ ap (λ (k : ℕ). numberAt k (a .s .now) (a .at)) whole
+    (l .inv .1 ∙ ap (λ (k : ℕ). numberAt k (a .s .now) (a .at)) whole, rw whole at (l .inv .2))
 
 pub number-spec : {M : Type 1} → statement M
 number-spec =

@@ -53,7 +53,7 @@ number-requires c κs = (c .before .before .before .pre .0, turned c .within)
 read-is : (c : tie.After-number FirstDecide remaining) → c .number .result ≡ at-number (c .before .before) (c .before .before .loop .left - 1)
 read-is c =
     let a = c .before .before .before .before .args in
-    c .number .ensures ∙ ap (numberAt (a .width) (a .s .now)) (turned (c .before) .next)
+    c .number .ensures .0 ∙ ap (numberAt (a .width) (a .s .now)) (turned (c .before) .next)
 
 returns : tie.Need-returns FirstDecide remaining
 returns c =

@@ -68,8 +68,8 @@ loop-again c =
     let rest = ap (behindEntries s (l .left - 1)) (next-is c) in (
       omega (arith, l .inv .0, rest, behind-on s (l .left) (l .place) (search needs)),
       l .inv .1
-      ∙ look-on s m (l .left) (l .place) (search needs) (λ e. c .before .if1 .left (c .before .before .byte2 .ensures .0 ∙ e))
-      ∙ ap (λ (n : ℕ). entryFrom s (l .left - 1) n m) (sym (next-is c)),
+          ∙ look-on s m (l .left) (l .place) (search needs) (λ e. c .before .if1 .left (c .before .before .byte2 .ensures .0 ∙ e))
+          ∙ ap (λ (n : ℕ). entryFrom s (l .left - 1) n m) (sym (next-is c)),
     )
 
 returns-2 : tie.Need-returns-2 RestDecides remaining

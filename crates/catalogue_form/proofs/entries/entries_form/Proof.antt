@@ -97,8 +97,8 @@ loop-again c =
       rest-within c,
       omega (arith, within (c .before .before), c .before .body-size .ensures),
       l .inv .2
-      ∙ entries-step (file turn) (l .place) (read entry) (entry .entry-at .ensures) _ (c .entry-size .ensures) (l .left) (l .last) (l .at) _
-      (c .before .body-size .ensures) (search needs) (passed (c .before .before)),
+          ∙ entries-step (file turn) (l .place) (read entry) (entry .entry-at .ensures) _ (c .entry-size .ensures) (l .left) (l .last) (l .at) _
+          (c .before .body-size .ensures) (search needs) (passed (c .before .before)),
     )
 
 returns-2 : tie.Need-returns-2 RestDecides remaining

@@ -48,8 +48,8 @@ returns c =
     let a = start sized .args in
     let width = sized .count-size .ensures .0 in
     entry-at-is (a .s .now) (a .place) _ (sized .before .byte .ensures .0) (c .before .before .byte2 .ensures .0)
-    (c .before .number .ensures ∙ ap (λ (w : ℕ). numberAt w (a .s .now) (a .place + 2)) width)
-    (c .number2 .ensures ∙ ap (λ (w : ℕ). numberAt offsetSize (a .s .now) (a .place + 2 + w)) width)
+    (c .before .number .ensures .0 ∙ ap (λ (w : ℕ). numberAt w (a .s .now) (a .place + 2)) width)
+    (c .number2 .ensures .0 ∙ ap (λ (w : ℕ). numberAt offsetSize (a .s .now) (a .place + 2 + w)) width)
 
 pub entry-at-spec : {M : Type 1} → statement M
 entry-at-spec =

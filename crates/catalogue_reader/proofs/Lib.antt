@@ -1,0 +1,3 @@
+-- What the proofs of several functions share.
+mod ByHand
+mod Held

@@ -1,0 +1,19 @@
+-- `catalogue_reader::opening::opened` meets its contract: what it gives follows from where the body lies. Assumes nothing.
+use mathlib.Core.Path.{refl, sym, _∙_}
+use borrow.Author.Needs.{needs}
+use Rattle.catalogue_reader.specs.Opened.{opened-found, opened-refused}
+use Rattle.catalogue_reader.proofs.opening.opened.Statement.{statement}
+use Rattle.catalogue_reader.proofs.opening.opened.Tie as tie
+
+returns : tie.Need-returns
+returns c =
+    let called = c .before .before .before in
+    opened-found _ _ _ (sym (called .locate .ensures) ∙ c .before .found .given .1)
+
+returns-2 : tie.Need-returns-2
+returns-2 c =
+    let called = c .before .before in
+    opened-refused _ _ _ (sym (called .locate .ensures) ∙ c .enum-told .given .1) _ refl refl refl
+
+pub opened-spec : {M : Type 1} → statement M
+opened-spec = tie.close (tie.spec (λ c κs. search needs) (λ c. search needs) (λ c. search needs) returns returns-2)

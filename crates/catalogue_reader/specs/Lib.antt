@@ -1,0 +1,2 @@
+-- What the contracts of the reader's inner functions cite.
+pub mod Opened

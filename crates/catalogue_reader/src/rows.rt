@@ -1,0 +1,58 @@
+// One row of a body: whether a place is the start of one, and what stands there.
+use catalogue_bytes::sizes;
+use definitions::Row;
+ghost use mathlib.Core.Path.{_≡_};
+ghost use Prim.Native.Nat.{_+_, _≤_};
+ghost use lib.ListN.{length};
+ghost use Rattle.definitions.specs.Ranking.{leastTop};
+ghost use Rattle.definitions.specs.Catalogue.{rowSize, atRow, tAt, rowAt};
+ghost use Rattle.number_laws.specs.Bounds.{LawfulDegree, LawfulTop};
+
+pub fn at_row(body: &[u8], degree: u32, top: u32, place: usize) -> bool
+    ensures { λ r. ⌜ r ≡ atRow degree top (now (body .entry)) place ⌝ }
+{
+    if !limits::is_lawful_degree(degree) {
+        return false;
+    }
+    if !limits::is_lawful_top(top) {
+        return false;
+    }
+    let size = sizes::row_size(degree, top);
+    if place % size != 0 {
+        return false;
+    }
+    if body.len() < place {
+        return false;
+    }
+    size <= body.len() - place
+}
+
+// t(s) of the row at a place; 0 above the top dimension.
+pub fn t_at(body: &[u8], degree: u32, top: u32, place: usize, s: u32) -> u32
+    requires { ⌜ LawfulTop top × (leastTop ≤ s) × (place + rowSize degree top ≤ length (now body)) ⌝ }
+    ensures { λ r. ⌜ r ≡ tAt degree top (now (body .entry)) place s ⌝ }
+{
+    if s > top {
+        return 0;
+    }
+    let first = place + sizes::NUMBERS * sizes::number_size(degree);
+    catalogue_bytes::byte(body, first + (s - limits::LEAST_TOP) as usize)
+}
+
+pub fn decode(body: &[u8], degree: u32, top: u32, place: usize) -> Row
+    requires { ⌜ LawfulDegree degree × LawfulTop top × (place + rowSize degree top ≤ length (now body)) ⌝ }
+    ensures { λ r. ⌜ r ≡ rowAt degree top (now (body .entry)) place ⌝ }
+{
+    let width = sizes::number_size(degree);
+    Row {
+        p: (1 << degree) + catalogue_bytes::number(body, place, width),
+        q: catalogue_bytes::number(body, place + width, width),
+        step: catalogue_bytes::number(body, place + 2 * width, width),
+        t3: t_at(body, degree, top, place, 3),
+        t4: t_at(body, degree, top, place, 4),
+        t5: t_at(body, degree, top, place, 5),
+        t6: t_at(body, degree, top, place, 6),
+        t7: t_at(body, degree, top, place, 7),
+        t8: t_at(body, degree, top, place, 8),
+    }
+}
