@@ -34,9 +34,13 @@ tValues m top p q = map (tValue m p q) (numbers leastTop (suc top - leastTop))
 unfoldable pub row : Selection → ℕ → ℕ → List ℕ
 row l p q = p ∷ q ∷ step (l .degree) p q ∷ tValues (l .degree) (l .top) p q
 
+-- In a row p, q and σ stand before the numbers that rank it.
+abbrev pub ranksFrom : ℕ
+ranksFrom = 3
+
 -- Rank: ascending by t(3) up to t(T), then by p, then by q. The key of a row is these numbers in this order.
 unfoldable pub rowKey : List ℕ → List ℕ
-rowKey r = drop 3 r ++ take 2 r
+rowKey r = drop ranksFrom r ++ take 2 r
 
 -- All well-formed pairs of degree m.
 unfoldable pub allPairs : ℕ → List Pair

@@ -1,24 +1,22 @@
--- The test over the table's divisors as a loop has it, one after the other: what is left to test is the list behind the place reached.
--- The divisors are primes, so the first 0 stands behind the last. Assumes nothing.
+-- The test over the table's divisors r as a loop has it, one after the other: none of the values f (N / r) is 1, with N = 2^m - 1. What is left to test
+-- is the list behind the place reached. The divisors are primes, so the first 0 stands behind the last. Assumes nothing.
 use mathlib.Core.Path.{_≡_, refl, sym, _∙_}
 use mathlib.Core.Bool.{Bool, true, false}
 use mathlib.Core.List.{List, [], _∷_, List·Memᴰ, List·Memᴰ·head, List·Memᴰ·tail}
-use Prim.Native.Nat.{ℕ, zero, suc, _+_, _-_, _/_, _≤_, _<_}
+use Prim.Native.Nat.{ℕ, zero, suc, _+_, _/_, _≤_, _<_}
 use native.Mathlib.Nat.{le-of-suc-le-suc}
 use native.Mathlib.Numerals.{add-one}
 use native.Mathlib.Omega.{arith}
 use native.Mathlib.Decide.{decLe}
-use lib.Dec.{leb}
+use lib.Dec.{eqb}
 use lib.ListN.{length, drop, getD, drop-of-length-le, List·getD-eq-default}
 use lib.Seq.{drop-cons}
-use borrow.Author.Tests.{leb-true}
-use Rattle.definitions.specs.Number.{every}
-use Rattle.definitions.specs.Generator.{leastDegree, largestDegree, period}
-use Rattle.number_laws.specs.Every.{every-out}
+use borrow.Author.Tests.{eq-eqb, ne-eqb}
+use Rattle.definitions.specs.Generator.{period}
+use Rattle.number_laws.specs.Bounds.{LawfulDegree}
+use Rattle.number_laws.specs.Truth.{le-unless}
 use Rattle.order_laws.specs.Exponents.{noneOf}
-use Rattle.order_laws.specs.Table.{divisorsOf, table-rule}
-use Rattle.generator.specs.Lawful.{Lawful}
-use Rattle.generator.specs.DivisorTable.{places}
+use Rattle.order_laws.specs.Table.{divisorsOf, places, divisors-fit, table-rule}
 
 listed : (l : List ℕ) (i : ℕ) → i < length l → List·Memᴰ (getD l i 0) l
 listed [] i h = absurd (omega arith)
@@ -37,38 +35,36 @@ noneOf-miss : (test : ℕ → Bool) (N r : ℕ) (l : List ℕ) → test (N / r) 
 unfolding noneOf
 noneOf-miss test N r l t = rw t
 
-fit-computed : every (suc largestDegree - leastDegree) (λ j. leb (length (divisorsOf (j + leastDegree))) places) ≡ true
-unfolding every divisorsOf
-fit-computed = refl
+-- A divisor is no 0, so a 0 stands behind the last.
+behind : (m i : ℕ) → LawfulDegree m → getD (divisorsOf m) i 0 ≡ 0 → length (divisorsOf m) ≤ i
+behind m i h z = le-unless (λ l. omega (arith, table-rule m h .each _ (listed (divisorsOf m) i l) .0 .above))
 
--- What the test says of the divisors from place i on, it says of all.
-abbrev pub LeftFrom : ℕ → (ℕ → Bool) → ℕ → Type 0
-LeftFrom m test i = noneOf test (period m) (drop i (divisorsOf m)) ≡ noneOf test (period m) (divisorsOf m)
+-- No value f (N / r) is 1, r among the divisors.
+abbrev pub noneIsOne : ℕ → (ℕ → ℕ) → Bool
+noneIsOne m f = noneOf (λ e. eqb (f e) 1) (period m) (divisorsOf m)
 
-module _ (m : ℕ) (h : Lawful m) where
-  divisors-fit : length (divisorsOf m) ≤ places
-  divisors-fit =
-      let e : m - leastDegree + leastDegree ≡ m = omega (arith, h .low) in
-      let t : leb (length (divisorsOf (m - leastDegree + leastDegree))) places ≡ true =
-      every-out (suc largestDegree - leastDegree) (λ j. leb (length (divisorsOf (j + leastDegree))) places) fit-computed (m - leastDegree) (omega (arith, h .low, h .high)) in
-      leb-true _ _ (rw e at t)
+-- The loop at place i: what the test says of the divisors from there on, it says of all.
+pub record Testing (m : ℕ) (f : ℕ → ℕ) (i : ℕ) : Type 0 where
+  pub lawful : LawfulDegree m
+  pub place : i ≤ places
+  pub left : noneOf (λ e. eqb (f e) 1) (period m) (drop i (divisorsOf m)) ≡ noneIsOne m f
 
-  -- A divisor is no 0, so a 0 stands behind the last.
-  behind : (i : ℕ) → getD (divisorsOf m) i 0 ≡ 0 → length (divisorsOf m) ≤ i
-  behind i z = go (decLe (length (divisorsOf m)) i)
-    where
-      go : Dec (length (divisorsOf m) ≤ i) → length (divisorsOf m) ≤ i
-      go (yes l) = l
-      go (no l) = absurd (omega (arith, table-rule m (h .low) (h .high) .each _ (listed (divisorsOf m) i (omega arith)) .0 .above))
+module _ {m : ℕ} {f : ℕ → ℕ} where
+  pub testing-start : LawfulDegree m → Testing m f 0
+  testing-start h = record { lawful = h; place = omega arith; left = refl }
 
-  module _ (test : ℕ → Bool) where
-    pub left-none : (i : ℕ) → LeftFrom m test i → getD (divisorsOf m) i 0 ≡ 0 → true ≡ noneOf test (period m) (divisorsOf m)
-    left-none i l z = sym (noneOf-nil test (period m)) ∙ rw (drop-of-length-le (divisorsOf m) {i = i} (behind i z)) at l
+  module _ {i : ℕ} (at : Testing m f i) where
+    nothing-left : length (divisorsOf m) ≤ i → true ≡ noneIsOne m f
+    nothing-left l = sym (noneOf-nil (λ e. eqb (f e) 1) (period m)) ∙ rw (drop-of-length-le (divisorsOf m) {i = i} l) at (at .left)
 
-    pub left-end : (i : ℕ) → LeftFrom m test i → places ≤ i → true ≡ noneOf test (period m) (divisorsOf m)
-    left-end i l e = sym (noneOf-nil test (period m)) ∙ rw (drop-of-length-le (divisorsOf m) {i = i} (omega (arith, divisors-fit))) at l
+    pub testing-zero : {r : ℕ} → r ≡ getD (divisorsOf m) i 0 → r ≡ 0 → true ≡ noneIsOne m f
+    testing-zero e z = nothing-left (behind m i (at .lawful) (sym e ∙ z))
 
-    module _ (i r : ℕ) (l : LeftFrom m test i) (e : r ≡ getD (divisorsOf m) i 0) (n : r ≡ 0 → ⊥) where
+    pub testing-end : places ≤ i → true ≡ noneIsOne m f
+    testing-end l = nothing-left (omega (arith, divisors-fit m (at .lawful)))
+
+    -- A divisor r at hand, and the value v of f at N / r.
+    module _ {r v : ℕ} (e : r ≡ getD (divisorsOf m) i 0) (n : r ≡ 0 → ⊥) (is : v ≡ f (period m / r)) where
       split : drop i (divisorsOf m) ≡ r ∷ drop (suc i) (divisorsOf m)
       split = go (decLe (length (divisorsOf m)) i)
         where
@@ -76,8 +72,15 @@ module _ (m : ℕ) (h : Lawful m) where
           go (yes k) = absurd (n (e ∙ List·getD-eq-default (divisorsOf m) 0 k))
           go (no k) = rw e (drop-cons (divisorsOf m) i 0 (omega arith))
 
-      pub left-hit : test (period m / r) ≡ true → false ≡ noneOf test (period m) (divisorsOf m)
-      left-hit t = sym (noneOf-hit test (period m) r (drop (suc i) (divisorsOf m)) t) ∙ rw split at l
+      pub testing-one : v ≡ 1 → false ≡ noneIsOne m f
+      testing-one one =
+          sym (noneOf-hit (λ k. eqb (f k) 1) (period m) r (drop (suc i) (divisorsOf m)) (eq-eqb _ 1 (sym is ∙ one))) ∙ rw split at (at .left)
 
-      pub left-more : test (period m / r) ≡ false → LeftFrom m test (i + 1)
-      left-more t = rw add-one (sym (noneOf-miss test (period m) r (drop (suc i) (divisorsOf m)) t) ∙ rw split at l)
+      pub testing-other : i < places → (v ≡ 1 → ⊥) → Testing m f (i + 1)
+      testing-other l other = record {
+        lawful = at .lawful;
+        place = omega arith;
+        left =
+            rw add-one
+            (sym (noneOf-miss (λ k. eqb (f k) 1) (period m) r (drop (suc i) (divisorsOf m)) (ne-eqb _ 1 (λ one. other (is ∙ one)))) ∙ rw split at (at .left));
+      }

@@ -1,7 +1,7 @@
 -- The step finder's turns: the power at hand is x^e, and e has not passed the step; where it is q, e is the step, and where it is not, e stands before it.
 -- Assumes nothing.
 use mathlib.Core.Path.{_≡_, sym, ap, _∙_}
-use mathlib.Core.Bool.{true, false≢true}
+use mathlib.Core.Bool.{true}
 use Prim.Native.Nat.{ℕ, _+_, _-_, _*_, _^_, _≤_, _<_}
 use native.Mathlib.Numerals.{add-one}
 use native.Mathlib.Omega.{arith}
@@ -9,14 +9,15 @@ use native.Mathlib.Decide.{decLe}
 use borrow.Author.Tests.{eq-eqb}
 use Rattle.definitions.specs.Polynomial.{rem}
 use Rattle.definitions.specs.Generator.{period, primitive, step}
+use Rattle.number_laws.specs.Bounds.{LawfulDegree, lead-low}
 use Rattle.number_laws.specs.First.{first-before}
+use Rattle.number_laws.specs.Truth.{le-unless, not-both}
 use Rattle.polynomial_laws.specs.Degree.{degree-unique}
 use Rattle.polynomial_laws.specs.Division.{rem-small}
 use Rattle.polynomial_laws.specs.Power.{rem-power-suc}
 use Rattle.fraction_laws.specs.WellFormed.{WellFormed}
 use Rattle.order_laws.specs.Cycle.{degree-big}
 use Rattle.order_laws.specs.Step.{gives, step-def, step-from, step-power}
-use Rattle.generator.specs.Lawful.{Lawful, top-low}
 
 -- Where the finder is: at x^e, e at most the step.
 pub record At (m p q power e : ℕ) : Type 0 where
@@ -24,7 +25,7 @@ pub record At (m p q power e : ℕ) : Type 0 where
   pub most : e ≤ step m p q
   pub is : power ≡ rem (2 ^ e) p
 
-module _ (m p q : ℕ) (h : Lawful m) (w : WellFormed m p q) (t : primitive m p ≡ true) where
+module _ (m p q : ℕ) (h : LawfulDegree m) (w : WellFormed m p q) (t : primitive m p ≡ true) where
   big : 2 ≤ p
   big = degree-big m p (omega (arith, h .low)) (w .degree-p)
 
@@ -32,16 +33,16 @@ module _ (m p q : ℕ) (h : Lawful m) (w : WellFormed m p q) (t : primitive m p 
   at-start = record {
     least = omega arith;
     most = step-from m p q;
-    is = sym (rem-small p (omega (arith, big)) 2 (rw (degree-unique p m (w .degree-p)) (omega (arith, top-low h))));
+    is = sym (rem-small p (omega (arith, big)) 2 (rw (degree-unique p m (w .degree-p)) (omega (arith, lead-low h))));
   }
 
   pub at-found : (power e : ℕ) → At m p q power e → power ≡ q → e ≡ step m p q
-  at-found power e a f = go (decLe (step m p q) e)
+  at-found power e a f = omega (arith, a .most, le-unless earlier)
     where
-      go : Dec (step m p q ≤ e) → e ≡ step m p q
-      go (yes l) = omega (arith, a .most)
-      go (no l) =
-          absurd (false≢true (sym (first-before (period m - 1) 1 (gives p q) e (a .least) (omega (arith, step-def m p q))) ∙ eq-eqb (rem (2 ^ e) p) q (sym (a .is) ∙ f)))
+      earlier : e < step m p q → ⊥
+      earlier l =
+          not-both (eq-eqb (rem (2 ^ e) p) q (sym (a .is) ∙ f))
+          (first-before (period m - 1) 1 (gives p q) e (a .least) (omega (arith, step-def m p q)))
 
   pub at-before : (power e : ℕ) → At m p q power e → (power ≡ q → ⊥) → e < step m p q
   at-before power e a n = go (decLe (step m p q) e)

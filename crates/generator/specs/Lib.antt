@@ -1,5 +1,4 @@
 -- What the contracts cite, and the laws that the code's proofs cite.
-pub mod Lawful
 pub mod CommonDivisor
 pub mod DivisorTable
 pub mod DivisorLoop

@@ -2,15 +2,16 @@
 ghost use mathlib.Core.Path.{_≡_};
 ghost use Prim.Native.Nat.{_<_};
 ghost use lib.ListN.{getD};
-ghost use Rattle.generator.specs.Lawful.{Lawful};
-ghost use Rattle.order_laws.specs.Table.{divisorsOf};
-use crate::degrees;
+ghost use Rattle.number_laws.specs.Bounds.{LawfulDegree};
+ghost use Rattle.order_laws.specs.Table.{divisorsOf, places};
 
 // As many places as a degree has divisors at most.
 pub const PLACES: usize = 4;
 
-// So many places for each degree from 2 on, with 0 behind the divisors.
-const DIVISORS: [u32; 60] = [
+const DEGREES: usize = (limits::LARGEST_DEGREE - limits::LEAST_DEGREE) as usize + 1;
+
+// So many places for each degree from the least on, with 0 behind the divisors.
+const DIVISORS: [u32; DEGREES * PLACES] = [
     3,
     0,
     0,
@@ -75,8 +76,8 @@ const DIVISORS: [u32; 60] = [
 
 // The i-th prime divisor of 2^m - 1; 0 behind the last.
 pub fn divisor(m: u32, i: usize) -> u32
-    requires { ⌜ Lawful m ⌝ }
-    requires { ⌜ i < 4 ⌝ }
+    requires { ⌜ LawfulDegree m ⌝ }
+    requires { ⌜ i < places ⌝ }
     ensures { λ r. ⌜ r ≡ getD (divisorsOf m) i 0 ⌝ }
 {
     DIVISORS[(m - limits::LEAST_DEGREE) as usize * PLACES + i]

@@ -1,7 +1,7 @@
 // Judging a pair of a lawful degree.
 ghost use mathlib.Core.Path.{_≡_};
 ghost use Rattle.definitions.specs.Generator.{wellFormed};
-ghost use Rattle.generator.specs.Lawful.{Lawful};
+ghost use Rattle.number_laws.specs.Bounds.{LawfulDegree};
 ghost use Rattle.generator.specs.Judging.{pairJudgement, pairVerdict, Checked};
 use crate::common_divisor;
 use crate::degrees;
@@ -19,25 +19,25 @@ pub enum Verdict {
 
 // 2^m ≤ p < 2^(m+1) and 1 ≤ q < 2^m.
 pub fn is_well_formed(m: u32, p: u32, q: u32) -> bool
-    requires { ⌜ Lawful m ⌝ }
+    requires { ⌜ LawfulDegree m ⌝ }
     ensures { λ r. ⌜ r ≡ wellFormed m p q ⌝ }
 {
-    let top = degrees::leading_term(m);
-    if p < top {
+    let lead = degrees::leading_term(m);
+    if p < lead {
         return false;
     }
-    if p >= 2 * top {
+    if p >= 2 * lead {
         return false;
     }
     if q == 0 {
         return false;
     }
-    q < top
+    q < lead
 }
 
 // Document 01's refusal 3, 4 or 5, the tests in this order, so that the lowest number is given.
 fn check_polynomials(m: u32, p: u32, q: u32) -> Verdict
-    requires { ⌜ Lawful m ⌝ }
+    requires { ⌜ LawfulDegree m ⌝ }
     ensures { λ r. ⌜ Checked m p q r ⌝ }
 {
     if !is_well_formed(m, p, q) {
@@ -54,7 +54,7 @@ fn check_polynomials(m: u32, p: u32, q: u32) -> Verdict
 
 // Refusal 3, 4, 5 or 6. Whether the step is coprime to 2^m - 1 is told by q's order, so that nobody looks for the step.
 pub fn check_pair(m: u32, p: u32, q: u32) -> Verdict
-    requires { ⌜ Lawful m ⌝ }
+    requires { ⌜ LawfulDegree m ⌝ }
     ensures { λ r. ⌜ r ≡ pairVerdict m p q ⌝ }
 {
     match check_polynomials(m, p, q) {
@@ -70,7 +70,7 @@ pub fn check_pair(m: u32, p: u32, q: u32) -> Verdict
 
 // The step of a pair, or the same refusal: here the step is looked for, and itself held to 2^m - 1.
 pub fn judge_pair(m: u32, p: u32, q: u32) -> Judgement
-    requires { ⌜ Lawful m ⌝ }
+    requires { ⌜ LawfulDegree m ⌝ }
     ensures { λ r. ⌜ r ≡ pairJudgement m p q ⌝ }
 {
     match check_polynomials(m, p, q) {

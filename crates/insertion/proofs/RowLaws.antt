@@ -1,17 +1,19 @@
--- What one turn of each loop over rows does: a number moved up, two t-values compared. A row is put in by a shift and a paste; rows compare by
+-- What one turn of each loop over rows does: a number moved up, two t-values compared. A row is put in by a shift and a write; rows compare by
 -- their t-values, and by their pairs where these do not decide. Assumes nothing.
 use mathlib.Core.Path.{_≡_, refl, sym, ap, _∙_}
 use mathlib.Core.Bool.{false, not, _||_, _&&_}
-use mathlib.Core.List.{List, [], _∷_, _++_, append-assoc}
+use mathlib.Core.List.{List, [], _∷_, _++_}
 use Prim.Native.Nat.{ℕ, suc, _+_, _-_, _*_, _/_, _≤_, _<_}
 use native.Mathlib.Nat.{suc-add, mul-le-mul-right}
 use native.Mathlib.Numerals.{add-one}
 use native.Mathlib.Omega.{arith}
 use lib.Dec.{ltb}
-use lib.ListN.{length, take, drop, getD, set, length-drop, List·getD-append, take-append-drop, drop-of-length-le}
-use lib.Seq.{take-suc, drop-cons, set-at, slice, slice-empty, slice-cons, append-snoc, getD-take, getD-drop, length-take-le, paste, take-append-le, take-take, drop-at}
+use lib.ListN.{length, take, drop, getD, set, length-drop, drop-of-length-le}
+use lib.Seq.{take-suc, take-take, drop-cons, slice, slice-empty, slice-cons, length-slice, getD-take, getD-drop, length-take-le}
+use Rattle.definitions.specs.Number.{over}
 use Rattle.definitions.specs.Pages.{before}
-use Rattle.definitions.specs.Ranking.{rowKey}
+use Rattle.definitions.specs.Ranking.{ranksFrom, rowKey}
+use Rattle.slice_laws.specs.Over.{over-nothing, over-one, over-append, over-before, over-store, length-over, getD-over}
 use Rattle.page_laws.specs.Key.{before-same, before-differ, before-single, before-append}
 use Rattle.page_laws.specs.Rows.{shifted, spliced}
 use Rattle.insertion.specs.Ranks.{ranksOf}
@@ -28,22 +30,13 @@ mid-in w low high n l h = row-in w (low + (high - low) / 2) n (omega arith)
 
 module _ (to w : ℕ) (s : List ℕ) where
   pub shifted-none : s ≡ shifted to to w s
-  unfolding shifted
-  shifted-none = rw slice-empty (sym (take-append-drop (to + w) s))
+  shifted-none = rw slice-empty (sym (over-nothing (to + w) s))
 
   shifted-more : (k : ℕ) → k < to → to + w ≤ length s → set (shifted (suc k) to w s) (k + w) (getD (shifted (suc k) to w s) k 0) ≡ shifted k to w s
-  unfolding shifted
   shifted-more k l h =
-      let R = slice (suc k) to s ++ drop (to + w) s in
-      rw (
-        List·getD-append (take (suc k + w) s) R 0 k (omega (arith, length-take-le (suc k + w) s (omega arith))),
-        getD-take (suc k + w) s k 0 (omega arith),
-        suc-add,
-        take-suc s (k + w) 0 (omega arith),
-        append-snoc,
-        set-at (take (k + w) s) (getD s (k + w) 0) R (getD s k 0) (k + w) (length-take-le (k + w) s (omega arith)),
-        slice-cons k to s 0 l (omega arith),
-      )
+      let moved : suc (k + w) + length (slice (suc k) to s) ≤ length s = omega (arith, length-slice (suc k) to s (omega arith)) in
+      rw (suc-add k w, getD-over (suc (k + w)) k 0 (slice (suc k) to s) s (omega arith) (omega arith), slice-cons k to s 0 l (omega arith))
+      (over-store (k + w) (getD s k 0) (slice (suc k) to s) s moved)
 
   pub shift-more : (j : ℕ) {out : List ℕ} → 0 < j → j ≤ to → to + w ≤ length s → out ≡ shifted j to w s
       → set out (j - 1 + w) (getD out (j - 1) 0) ≡ shifted (j - 1) to w s
@@ -51,13 +44,30 @@ module _ (to w : ℕ) (s : List ℕ) where
       let next : j ≡ suc (j - 1) = omega arith in
       rw (e ∙ ap (λ (k : ℕ). shifted k to w s) next) (shifted-more (j - 1) (omega arith) h)
 
-pub shifted-paste : (from to w : ℕ) (row s : List ℕ) → from ≤ to → to + w ≤ length s
-    → paste (shifted from to w s) from row w ≡ spliced from to w (take w row) s
-unfolding shifted spliced
-shifted-paste from to w row s l h =
-    let long = length-take-le (from + w) s (omega arith) in
-    rw (take-append-le from (take (from + w) s) _ (omega arith), take-take from (from + w) s (omega arith), drop-at (take (from + w) s) _ (from + w) long)
-    (append-assoc (take from s) (take w row) _)
+pub shifted-written : (from to w : ℕ) (row s : List ℕ) → w ≤ length row → from + w ≤ length s
+    → over from (take w row) (shifted from to w s) ≡ spliced from to (take w row) s
+shifted-written from to w row s wide h =
+    let l = length-take-le w row wide in
+    rw l at (over-before from (take w row) (slice from to s) s (omega arith))
+
+-- ---- a row written from place i on
+
+-- The first i numbers of the row stand over s from base on.
+abbrev pub Written : ℕ → List ℕ → List ℕ → ℕ → List ℕ → Type 0
+Written base row s i out = out ≡ over base (take i row) s
+
+module _ (base : ℕ) (row s : List ℕ) where
+  pub none-written : Written base row s 0 s
+  none-written = sym (over-nothing base s)
+
+  pub one-written : (i : ℕ) {out : List ℕ} → i < length row → base + i < length s → Written base row s i out
+      → Written base row s (i + 1) (set out (base + i) (getD row i 0))
+  one-written i l h e =
+      let long : length (take i row) ≡ i = length-take-le i row (omega arith) in
+      let inside : base + i < length (over base (take i row) s) = omega (arith, length-over base (take i row) s (omega arith)) in
+      let place : base + i ≡ base + length (take i row) = omega arith in
+      rw (e, over-one (base + i) (getD row i 0) (over base (take i row) s) inside, add-one, take-suc row i 0 (omega arith))
+      (ap (λ (k : ℕ). over k (getD row i 0 ∷ []) (over base (take i row) s)) place ∙ over-append base (take i row) (getD row i 0 ∷ []) s (omega arith))
 
 -- ---- t-values compared from place k on
 
@@ -76,11 +86,11 @@ module _ (s i : ℕ) (a : List ℕ) (h : i + s ≤ length a) where
   front-end k e = drop-of-length-le (take s (drop i a)) {i = k} (omega (arith, front-length))
 
 module _ (s i j : ℕ) (a b : List ℕ) where
-  pub left-all : Left s i a j b 3
+  pub left-all : Left s i a j b ranksFrom
   unfolding ranksOf
   left-all = refl
 
-  module _ (k : ℕ) (pre : (3 ≤ s) × (i + s ≤ length a) × (j + s ≤ length b)) (inv : Left s i a j b k) where
+  module _ (k : ℕ) (pre : (ranksFrom ≤ s) × (i + s ≤ length a) × (j + s ≤ length b)) (inv : Left s i a j b k) where
     left-first : k < s → before (ranksOf s (drop i a)) (ranksOf s (drop j b))
         ≡ before (getD a (i + k) 0 ∷ drop (k + 1) (take s (drop i a))) (getD b (j + k) 0 ∷ drop (k + 1) (take s (drop j b)))
     left-first l = rw (← front-more s i a (pre .1) k l, ← front-more s j b (pre .2) k l) inv
@@ -109,17 +119,21 @@ module _ (i j : ℕ) (a b : List ℕ) (pre : (i + 2 ≤ length a) × (j + 2 ≤ 
 
 -- ---- rows
 
-module _ (w : ℕ) (wide : 3 < w) where
+-- Rows compare by their t-values, and by their pairs where these do not decide.
+abbrev pub Compares : ℕ → ℕ → List ℕ → ℕ → List ℕ → Type 0
+Compares w i a j b =
+    before (rowKey (take w (drop i a))) (rowKey (take w (drop j b)))
+    ≡ (before (ranksOf w (drop i a)) (ranksOf w (drop j b))
+    || (not (before (ranksOf w (drop j b)) (ranksOf w (drop i a))) && before (take 2 (drop i a)) (take 2 (drop j b))))
+
+module _ (w : ℕ) (wide : ranksFrom < w) where
   key-parts : (i : ℕ) (a : List ℕ) → rowKey (take w (drop i a)) ≡ ranksOf w (drop i a) ++ take 2 (drop i a)
   unfolding rowKey ranksOf
   key-parts i a = rw (take-take 2 w (drop i a) (omega arith))
 
-  ranks-length : (i : ℕ) (a : List ℕ) → i + w ≤ length a → length (ranksOf w (drop i a)) ≡ w - 3
+  ranks-length : (i : ℕ) (a : List ℕ) → i + w ≤ length a → length (ranksOf w (drop i a)) ≡ w - ranksFrom
   unfolding ranksOf
   ranks-length i a h = rw (length-drop, front-length w i a h)
 
-  pub rows-compare : (i j : ℕ) (a b : List ℕ) → i + w ≤ length a → j + w ≤ length b
-      → before (rowKey (take w (drop i a))) (rowKey (take w (drop j b)))
-      ≡ (before (ranksOf w (drop i a)) (ranksOf w (drop j b))
-      || (not (before (ranksOf w (drop j b)) (ranksOf w (drop i a))) && before (take 2 (drop i a)) (take 2 (drop j b))))
+  pub rows-compare : (i j : ℕ) (a b : List ℕ) → i + w ≤ length a → j + w ≤ length b → Compares w i a j b
   rows-compare i j a b h l = rw (key-parts i a, key-parts j b) (before-append _ _ _ _ (ranks-length i a h ∙ sym (ranks-length j b l)))

@@ -1,8 +1,9 @@
--- The t-values of a row, as they stand in it. Assumes nothing.
+-- The numbers that rank a row, its t-values, as they stand in it. Assumes nothing.
 use mathlib.Core.List.{List}
 use Prim.Native.Nat.{ℕ}
 use lib.ListN.{take, drop}
+use Rattle.definitions.specs.Ranking.{ranksFrom}
 
 -- The t-values among the first s numbers of a row.
 unfoldable pub ranksOf : ℕ → List ℕ → List ℕ
-ranksOf s r = drop 3 (take s r)
+ranksOf s r = drop ranksFrom (take s r)

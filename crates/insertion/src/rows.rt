@@ -2,12 +2,15 @@
 ghost use mathlib.Core.Path.{_≡_};
 ghost use Prim.Native.Nat.{_+_, _*_, _<_, _≤_};
 ghost use lib.ListN.{length, take, drop};
-ghost use lib.Seq.{paste};
+ghost use Rattle.definitions.specs.Number.{over};
 ghost use Rattle.definitions.specs.Pages.{before};
-ghost use Rattle.definitions.specs.Ranking.{rowKey};
+ghost use Rattle.definitions.specs.Ranking.{ranksFrom, rowKey};
 ghost use Rattle.page_laws.specs.Slot.{slot, Ordered};
 ghost use Rattle.page_laws.specs.Rows.{rowsOf, shifted, spliced, inserted, Kept};
 ghost use Rattle.insertion.specs.Ranks.{ranksOf};
+
+// In a row p, q and the step stand before the numbers that rank it.
+pub const RANKS_FROM: usize = 3;
 
 // Whether the pair of the row of `a` at `i` stands before that of `b` at `j`: by p, then by q.
 fn pair_before(a: &[u32], i: usize, b: &[u32], j: usize) -> bool
@@ -26,10 +29,10 @@ fn pair_before(a: &[u32], i: usize, b: &[u32], j: usize) -> bool
 
 // Whether the t-values among the first `s` numbers of the row of `a` at `i` stand before those of `b` at `j`.
 pub fn ranks_before(a: &[u32], i: usize, b: &[u32], j: usize, s: usize) -> bool
-    requires { ⌜ (3 ≤ s) × (i + s ≤ length (now a)) × (j + s ≤ length (now b)) ⌝ }
+    requires { ⌜ (ranksFrom ≤ s) × (i + s ≤ length (now a)) × (j + s ≤ length (now b)) ⌝ }
     ensures { λ r. ⌜ r ≡ before (ranksOf s (drop i (now (a .entry)))) (ranksOf s (drop j (now (b .entry)))) ⌝ }
 {
-    let mut k: usize = 3;
+    let mut k: usize = RANKS_FROM;
     while k < s {
         let x = a[i + k];
         let y = b[j + k];
@@ -43,7 +46,7 @@ pub fn ranks_before(a: &[u32], i: usize, b: &[u32], j: usize, s: usize) -> bool
 
 // Whether the row of `a` at `i` stands before the row of `b` at `j`, by their keys: by their t-values, and where these are the same by their pairs.
 pub fn stands_before(a: &[u32], i: usize, b: &[u32], j: usize, width: usize) -> bool
-    requires { ⌜ (3 < width) × (i + width ≤ length (now a)) × (j + width ≤ length (now b)) ⌝ }
+    requires { ⌜ (ranksFrom < width) × (i + width ≤ length (now a)) × (j + width ≤ length (now b)) ⌝ }
     ensures { λ r. ⌜ r ≡ before (rowKey (take width (drop i (now (a .entry))))) (rowKey (take width (drop j (now (b .entry))))) ⌝ }
 {
     if ranks_before(a, i, b, j, width) {
@@ -57,7 +60,7 @@ pub fn stands_before(a: &[u32], i: usize, b: &[u32], j: usize, width: usize) -> 
 
 // The slot of `row` among the `kept` rows at the front of `out`, by halves.
 pub fn find_slot(out: &[u32], kept: usize, width: usize, row: &[u32]) -> usize
-    requires { ⌜ (3 < width) × (width ≤ length (now row)) × (kept * width ≤ length (now out)) × Ordered rowKey (rowsOf width kept (now out)) ⌝ }
+    requires { ⌜ (ranksFrom < width) × (width ≤ length (now row)) × (kept * width ≤ length (now out)) × Ordered rowKey (rowsOf width kept (now out)) ⌝ }
     ensures { λ r. ⌜ r ≡ slot rowKey (take width (now (row .entry))) (rowsOf width kept (now (out .entry))) ⌝ }
 {
     let mut low: usize = 0;
@@ -88,7 +91,7 @@ fn shift(out: &mut [u32], from: usize, to: usize, width: usize)
 // Writes the first `width` numbers of `row` at `base`.
 fn write_row(out: &mut [u32], base: usize, row: &[u32], width: usize)
     requires { ⌜ (width ≤ length (now row)) × (base + width ≤ length (now out)) ⌝ }
-    ensures { λ _. ⌜ now (out .exit) ≡ paste (now (out .entry)) base (now (row .entry)) width ⌝ }
+    ensures { λ _. ⌜ now (out .exit) ≡ over base (take width (now (row .entry))) (now (out .entry)) ⌝ }
 {
     let mut i: usize = 0;
     while i < width {
@@ -100,7 +103,7 @@ fn write_row(out: &mut [u32], base: usize, row: &[u32], width: usize)
 // Puts `row` in at `from`, and moves what stands there up to `to` behind it.
 fn splice(out: &mut [u32], from: usize, to: usize, width: usize, row: &[u32])
     requires { ⌜ (width ≤ length (now row)) × (from ≤ to) × (to + width ≤ length (now out)) ⌝ }
-    ensures { λ _. ⌜ now (out .exit) ≡ spliced from to width (take width (now (row .entry))) (now (out .entry)) ⌝ }
+    ensures { λ _. ⌜ now (out .exit) ≡ spliced from to (take width (now (row .entry))) (now (out .entry)) ⌝ }
 {
     shift(out, from, to, width);
     write_row(out, from, row, width);
@@ -117,7 +120,8 @@ pub fn insert_row(
 ) -> usize
     requires { ⌜ (width ≤ length (now row)) × (kept ≤ capacity) × (capacity * width ≤ length (now out)) ⌝ }
     requires { ⌜ at ≡ slot rowKey (take width (now row)) (rowsOf width kept (now out)) ⌝ }
-    ensures { λ r. ⌜ _≡_ {A = Kept} (record { out = now (out .exit); n = r }) (inserted rowKey width capacity (take width (now (row .entry))) (record { out = now (out .entry); n = kept })) ⌝ }
+    ensures { λ r. ⌜ _≡_ {A = Kept} (record { out = now (out .exit); n = r })
+        (inserted rowKey width capacity (take width (now (row .entry))) (record { out = now (out .entry); n = kept })) ⌝ }
 {
     if kept < capacity {
         splice(out, at * width, kept * width, width, row);

@@ -1,19 +1,25 @@
-// Where the search may stop.
+// How little can be to come: a bound of the weights below which no more digit rows need be taken.
 ghost use Rattle.fraction_laws.specs.WellFormed.{WellFormed};
-ghost use Rattle.generator.specs.Lawful.{Lawful};
+ghost use Rattle.number_laws.specs.Bounds.{LawfulDegree};
 ghost use Rattle.net.specs.Bound.{Stop};
 use generator::degrees;
 use polynomial::fractions;
 
-// One row sooner where every partial quotient of q/p has degree one, since q then has an inverse; the test costs far less than a row.
+// The bound for every pair.
+pub const ANY_PAIR: usize = 1;
+
+// The bound where q has an inverse modulo p, as in every accepted pair.
+pub const INVERTIBLE: usize = 2;
+
+// The sharper bound where every partial quotient of q/p has degree one, since q then has an inverse; the test costs far less than a digit row.
 pub fn stop_bound(degree: u32, p: u32, q: u32) -> usize
-    requires { ⌜ Lawful degree ⌝ }
+    requires { ⌜ LawfulDegree degree ⌝ }
     requires { ⌜ WellFormed degree p q ⌝ }
     ensures { λ f. ⌜ Stop degree p q f ⌝ }
 {
-    let top = degrees::leading_term(degree);
-    if fractions::linear_quotients(p, q, top) {
-        return 2;
+    let lead = degrees::leading_term(degree);
+    if fractions::linear_quotients(p, q, lead) {
+        return INVERTIBLE;
     }
-    1
+    ANY_PAIR
 }

@@ -1,13 +1,11 @@
-// The t-value of a pair, by the least weight of rows that are not free.
+// The t-value of a pair, by the least weight of digit rows that are not free.
 ghost use mathlib.Core.Path.{_≡_};
 ghost use Rattle.definitions.specs.Calls.{uniformity};
 use definitions::Refusal;
 use definitions::Uniformity;
 use generator::pair;
 
-pub mod bound; // where the search may stop
-pub mod rows; // the powers of q modulo p
-pub mod search; // the least weight, one coordinate more at a time
+pub mod bound; // how little can be to come of the digit rows
 pub mod values; // t-values of one pair, each from the one before
 
 // The t-value of a pair of the degree given, or document 01's refusal 1, 2 or 3.

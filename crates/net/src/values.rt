@@ -1,59 +1,66 @@
-// t-values of one pair: the search for each dimension starts where the one before ended.
-use crate::rows::powers;
-use crate::search::level;
+// t-values of one pair, each from the one before.
+use least_weight::powers::powers_of;
+use least_weight::weight::least_weight;
+use limits::COORDINATES;
 ghost use mathlib.Core.Path.{_≡_};
-ghost use Prim.Native.Nat.{_+_, _-_, _<_, _≤_};
-ghost use lib.ListN.{length};
+ghost use Prim.Native.Nat.{_-_, _^_, _≤_};
 ghost use Rattle.definitions.specs.Net.{tValue};
-ghost use Rattle.definitions.specs.Ranking.{tValues};
-ghost use Rattle.net.specs.Bound.{Modulo, Stop};
+ghost use Rattle.definitions.specs.Ranking.{largestTop};
+ghost use Rattle.number_laws.specs.Bounds.{LawfulDegree, LawfulDimension};
+ghost use Rattle.polynomial_laws.specs.Degree.{HasDegree};
+ghost use Rattle.least_weight.specs.Weight.{PowersOf};
+ghost use Rattle.net.specs.Bound.{Stop};
 
-// t(s), where `before` is t(s - 1).
-pub fn next_t(degree: u32, p: u32, q: u32, s: usize, before: u32, bound: usize) -> u32
-    requires { ⌜ Modulo degree p ⌝ }
+// The powers of q modulo p, which are the same for every dimension.
+pub fn powers(degree: u32, p: u32, q: u32) -> [u32; COORDINATES]
+    requires { ⌜ LawfulDegree degree × HasDegree p degree ⌝ }
+    ensures { λ w. ⌜ PowersOf q p (2 ^ degree) w ⌝ }
+{
+    powers_of(q, p, 1 << degree)
+}
+
+// t(s), where `before` is t(s - 1) and `powers` are those of q.
+pub fn next_t(
+    degree: u32,
+    p: u32,
+    q: u32,
+    s: usize,
+    before: u32,
+    powers: &[u32; COORDINATES],
+    bound: usize,
+) -> u32
+    requires { ⌜ LawfulDegree degree × HasDegree p degree ⌝ }
     requires { ⌜ Stop degree p q bound ⌝ }
-    requires { ⌜ (2 ≤ s) × (s ≤ 8) ⌝ }
+    requires { ⌜ PowersOf q p (2 ^ degree) (now powers) ⌝ }
+    requires { ⌜ (2 ≤ s) × (s ≤ largestTop) ⌝ }
     requires { ⌜ before ≡ tValue degree p q (s - 1) ⌝ }
     ensures { λ t. ⌜ t ≡ tValue degree p q s ⌝ }
 {
-    let top = 1 << degree;
-    let w = powers(p, top, q);
-    let least = level(s - 1, (degree + 1 - before) as usize, &w, bound, p, top);
+    let lead = 1 << degree;
+    let least = least_weight(
+        s - 1,
+        (degree + 1 - before) as usize,
+        powers,
+        bound,
+        p,
+        lead,
+    );
     degree + 1 - least as u32
 }
 
 // t(s), from t(1) = 0 on.
 pub fn t_at(degree: u32, p: u32, q: u32, s: usize, bound: usize) -> u32
-    requires { ⌜ Modulo degree p ⌝ }
+    requires { ⌜ LawfulDegree degree × HasDegree p degree ⌝ }
     requires { ⌜ Stop degree p q bound ⌝ }
-    requires { ⌜ (1 ≤ s) × (s ≤ 8) ⌝ }
+    requires { ⌜ LawfulDimension s ⌝ }
     ensures { λ t. ⌜ t ≡ tValue degree p q s ⌝ }
 {
-    let top = 1 << degree;
-    let w = powers(p, top, q);
-    let mut least = (degree + 1) as usize;
-    let mut j = 1;
-    while j < s {
-        least = level(j, least, &w, bound, p, top);
-        j += 1;
+    let powers = powers(degree, p, q);
+    let mut value = 0;
+    let mut dimension = 1;
+    while dimension < s {
+        dimension += 1;
+        value = next_t(degree, p, q, dimension, value, &powers, bound);
     }
-    degree + 1 - least as u32
-}
-
-// t(3), t(4), .. as many as the slice holds.
-pub fn fill_t(degree: u32, p: u32, q: u32, bound: usize, values: &mut [u32])
-    requires { ⌜ Modulo degree p ⌝ }
-    requires { ⌜ Stop degree p q bound ⌝ }
-    requires { ⌜ length (now values) ≤ 6 ⌝ }
-    ensures { λ _. ⌜ now (values .exit) ≡ tValues degree (length (now (values .entry)) + 2) p q ⌝ }
-{
-    let top = 1 << degree;
-    let w = powers(p, top, q);
-    let mut least = level(1, (degree + 1) as usize, &w, bound, p, top);
-    let mut i = 0;
-    while i < values.len() {
-        least = level(i + 2, least, &w, bound, p, top);
-        values[i] = degree + 1 - least as u32;
-        i += 1;
-    }
+    value
 }

@@ -22,7 +22,7 @@ use Rattle.polynomial_laws.specs.Sum.{⊕-comm, ⊕-zero, ⊕-lt, ⊕-injective
 use Rattle.polynomial_laws.specs.Degree.{degree-is, degree-least}
 use Rattle.number_laws.specs.Truth.{truth-equal}
 use Rattle.number_laws.specs.Count.{count-ext, count-all, count-split, count-permute}
-use Rattle.net_laws.specs.Additive.{Additive, zero-additive, additive-agree, digitAt, digitAt-lt, digitAt-additive, digitAt-small, digitAt-leading}
+use Rattle.polynomial_laws.specs.Additive.{Additive, zero-additive, additive-agree, digitAt, digitAt-lt, digitAt-additive, digitAt-small, digitAt-leading}
 use Rattle.net_laws.specs.Reduction.{reduced, Each, each-map, reduce, basis, reduce-additive, reduce-le, reduced-rows, reduced-unseen}
 use Rattle.net_laws.specs.Pairing.{pairing, pairing-lt, pairing-additive, pairing-additive-left, pairing-zero, partner, partner-lt, partner-pairs}
 

@@ -1,4 +1,4 @@
--- Where q has an inverse modulo p, the bound 2 serves the search. For then h ↦ q h mod p permutes the points and moves each coordinate down by one, so
+-- Where q has an inverse modulo p, the bound 2 holds. For then h ↦ q h mod p permutes the points and moves each coordinate down by one, so
 -- that a share with no digit of coordinate 0 is as free as that one coordinate lower: of the same weight, and without the last coordinate.
 -- Assumes nothing.
 use mathlib.Core.Path.{_≡_, refl, sym, ap, ap₂, _∙_}
@@ -19,8 +19,8 @@ use Rattle.polynomial_laws.specs.Power.{power-suc}
 use Rattle.net_laws.specs.Cell.{Free, passing}
 use Rattle.net_laws.specs.Net.{total, Box, none, more}
 use Rattle.net_laws.specs.Point.{digitRow, leading-none}
-use Rattle.net_laws.specs.Share.{FreeShare, rowsOf, length-rowsOf, corner, corner-box, free-box, box-free}
-use Rattle.net_laws.specs.Search.{share-reach, reach-share}
+use Rattle.net_laws.specs.Share.{FreeShare, shareRows, length-shareRows, corner, corner-box, free-box, box-free}
+use Rattle.net_laws.specs.Lightest.{share-reach, reach-share}
 use Rattle.net_laws.specs.Weight.{Sound}
 
 module _ (p : ℕ) (pos : 0 < p) (q back : ℕ) (inverse : rem (prod back q) p ≡ rem 1 p) where
@@ -61,9 +61,10 @@ module _ (p : ℕ) (pos : 0 < p) (q back : ℕ) (inverse : rem (prod back q) p �
   sound-two j W least all x (suc c) few l = absurd (omega arith)
   sound-two j W least all x zero few l = let share = reach-share (digitRow p q) x in rw (share .2) (go (share .0) (share .1) (share .2))
     where
-      go : (ds : List ℕ) → length ds ≡ suc j → all ≡ rowsOf (digitRow p q) 1 ds → Free 0 (rowsOf (digitRow p q) 1 ds)
+      go : (ds : List ℕ) → length ds ≡ suc j → all ≡ shareRows (digitRow p q) 1 ds → Free 0 (shareRows (digitRow p q) 1 ds)
       go [] len e = absurd (omega arith)
       go (d ∷ ds) len e =
-          let weight : length all ≡ d + total ds = ap length e ∙ length-rowsOf (digitRow p q) 1 (d ∷ ds) in
+          let weight : length all ≡ d + total ds = ap length e ∙ length-shareRows (digitRow p q) 1 (d ∷ ds) in
           free-up d ds (omega (arith, least .most))
-          (least .lighter (rowsOf (digitRow p q) 1 ds) (share-reach (digitRow p q) j ds (omega arith)) d (omega (arith, length-rowsOf (digitRow p q) 1 ds)))
+          (least .lighter (shareRows (digitRow p q) 1 ds) (share-reach (digitRow p q) j ds (omega arith)) d
+          (omega (arith, length-shareRows (digitRow p q) 1 ds)))

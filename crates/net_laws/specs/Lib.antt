@@ -1,5 +1,4 @@
--- From additive functions to t-values, in the order in which the laws build on each other.
-pub mod Additive
+-- From reduction of rows to t-values, in the order in which the laws build on each other.
 pub mod Reduction
 pub mod Pairing
 pub mod Cell
@@ -8,7 +7,7 @@ pub mod Net
 pub mod Smallest
 pub mod Share
 pub mod Size
-pub mod Search
+pub mod Lightest
 pub mod Weight
 pub mod Inverse
 pub mod TValue

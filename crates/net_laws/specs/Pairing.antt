@@ -14,7 +14,7 @@ use Rattle.polynomial_laws.specs.Sum.{⊕-zero, ⊕-double, ⊕-shr, ⊕-lt, �
 use Rattle.polynomial_laws.specs.Division.{rem-small, rem-⊕, next-digit}
 use Rattle.polynomial_laws.specs.Product.{prod-⊕, prod-comm}
 use Rattle.polynomial_laws.specs.Power.{powers-prod}
-use Rattle.net_laws.specs.Additive.{Additive, additive-zero, additive-agree}
+use Rattle.polynomial_laws.specs.Additive.{Additive, additive-zero, additive-agree}
 
 unfoldable pub pairing : ℕ → ℕ → ℕ → ℕ
 pairing p r h = 2 * rem (prod r h) p / 2 ^ degree p

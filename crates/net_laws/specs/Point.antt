@@ -3,14 +3,14 @@
 -- Assumes nothing.
 use mathlib.Core.Path.{_≡_, sym, ap, _∙_}
 use Prim.Native.Nat.{ℕ, suc, _+_, _*_, _^_, _<_}
-use native.Mathlib.Nat.{pow-suc, pow-succ', mul-comm, mul-one, zero-mul}
-use native.Mathlib.Omega.{arith}
+use native.Mathlib.Nat.{pow-succ', mul-comm}
 use lib.Pow.{pow-lt}
-use Rattle.definitions.specs.Polynomial.{degree, prod, power, quot, rem}
+use Rattle.definitions.specs.Polynomial.{degree, prod, power, rem}
 use Rattle.definitions.specs.Points.{leading, coordinate}
 use Rattle.polynomial_laws.specs.Product.{prod-one, one-prod, double-prod, zero-prod, prod-factors}
-use Rattle.polynomial_laws.specs.Division.{rem-lt, rem-small, rem-zero, rem-double, rem-prod-left, rem-prod-right, quot-zero, quot-small, quot-double}
+use Rattle.polynomial_laws.specs.Division.{rem-lt, rem-small, rem-zero, rem-double, rem-prod-left, rem-prod-right}
 use Rattle.polynomial_laws.specs.Power.{power-prod, power-zero, power-suc}
+use Rattle.polynomial_laws.specs.Leading as Leading
 use Rattle.net_laws.specs.Pairing.{pairing}
 
 unfoldable pub digitRow : ℕ → ℕ → ℕ → ℕ → ℕ
@@ -21,8 +21,8 @@ unfolding digitRow
 digitRow-first p q j = ap (λ (z : ℕ). rem z p) (one-prod (power q j))
 
 pub leading-origin : (p q j d : ℕ) → leading p d (coordinate p q j 0) ≡ 0
-unfolding leading coordinate
-leading-origin p q j d = rw (zero-prod (power q j), rem-zero p, zero-mul (2 ^ d)) (quot-zero p)
+unfolding coordinate
+leading-origin p q j d = rw (zero-prod (power q j), rem-zero p) (Leading.leading-zero p d)
 
 module _ (p : ℕ) (pos : 0 < p) where
   -- ---- the rows
@@ -43,8 +43,8 @@ module _ (p : ℕ) (pos : 0 < p) where
 
   -- ---- the digits
   pub leading-none : (q j h : ℕ) → leading p 0 (coordinate p q j h) ≡ 0
-  unfolding leading coordinate
-  leading-none q j h = let y = rem (prod h (power q j)) p in ap (λ (z : ℕ). quot z p) (mul-one y) ∙ quot-small p pos y (rem-lt p pos (prod h (power q j)))
+  unfolding coordinate
+  leading-none q j h = Leading.leading-none p pos (rem (prod h (power q j)) p) (rem-lt p pos (prod h (power q j)))
 
   digitRow-prod : (q j i h : ℕ) → rem (prod (digitRow p q j i) h) p ≡ rem (coordinate p q j h * 2 ^ i) p
   unfolding digitRow coordinate
@@ -54,8 +54,5 @@ module _ (p : ℕ) (pos : 0 < p) where
       ∙ sym (ap (λ (z : ℕ). rem z p) (mul-comm (rem c p) (2 ^ i) ∙ sym (power-prod i (rem c p))) ∙ rem-prod-right p pos (2 ^ i) c ∙ simp prod-factors)
 
   pub leading-more : (q j d h : ℕ) → leading p (suc d) (coordinate p q j h) ≡ 2 * leading p d (coordinate p q j h) + pairing p (digitRow p q j d) h
-  unfolding leading pairing
-  leading-more q j d h =
-      let y = coordinate p q j h in
-      let twice : y * 2 ^ suc d ≡ 2 * (y * 2 ^ d) = rw (pow-suc 2 d) (omega arith) in
-      rw (twice, quot-double p (y * 2 ^ d), digitRow-prod q j d h)
+  unfolding pairing
+  leading-more q j d h = rw (Leading.leading-more p d (coordinate p q j h), digitRow-prod q j d h)

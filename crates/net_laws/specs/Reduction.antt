@@ -14,7 +14,7 @@ use Rattle.definitions.specs.Polynomial.{_⊕_, degree}
 use Rattle.polynomial_laws.specs.Digits.{Digit, off, on, lowest}
 use Rattle.polynomial_laws.specs.Sum.{⊕-def, ⊕-self, ⊕-zero, ⊕-shr, ⊕-swap, lowest-mul}
 use Rattle.polynomial_laws.specs.Degree.{degree-is, leading-one}
-use Rattle.net_laws.specs.Additive.{Additive}
+use Rattle.polynomial_laws.specs.Additive.{Additive}
 
 -- ---- definitions
 

@@ -31,13 +31,13 @@ firstRows f zero = []
 firstRows f (suc d) = f d ∷ firstRows f d
 
 -- The rows of a share ds of the coordinates from j on, where G j i is row i of coordinate j.
-unfoldable pub rowsOf : (ℕ → ℕ → ℕ) → ℕ → List ℕ → List ℕ
-rowsOf G j [] = []
-rowsOf G j (d ∷ ds) = firstRows (G j) d ++ rowsOf G (suc j) ds
+unfoldable pub shareRows : (ℕ → ℕ → ℕ) → ℕ → List ℕ → List ℕ
+shareRows G j [] = []
+shareRows G j (d ∷ ds) = firstRows (G j) d ++ shareRows G (suc j) ds
 
 -- A share of d digits of coordinate 0, and ds of the others, has free rows.
 abbrev pub FreeShare : ℕ → ℕ → ℕ → List ℕ → Type 0
-FreeShare p q d ds = Free d (rowsOf (digitRow p q) 1 ds)
+FreeShare p q d ds = Free d (shareRows (digitRow p q) 1 ds)
 
 -- The box at the origin.
 unfoldable pub corner : List ℕ → List ℕ
@@ -49,10 +49,10 @@ unfolding firstRows
 length-firstRows f zero rs = omega arith
 length-firstRows f (suc d) rs = omega (arith, length-firstRows f d rs)
 
-pub length-rowsOf : (G : ℕ → ℕ → ℕ) (j : ℕ) (ds : List ℕ) → length (rowsOf G j ds) ≡ total ds
-unfolding rowsOf total
-length-rowsOf G j [] = refl
-length-rowsOf G j (d ∷ ds) = length-firstRows (G j) d (rowsOf G (suc j) ds) ∙ ap (λ (n : ℕ). d + n) (length-rowsOf G (suc j) ds)
+pub length-shareRows : (G : ℕ → ℕ → ℕ) (j : ℕ) (ds : List ℕ) → length (shareRows G j ds) ≡ total ds
+unfolding shareRows total
+length-shareRows G j [] = refl
+length-shareRows G j (d ∷ ds) = length-firstRows (G j) d (shareRows G (suc j) ds) ∙ ap (λ (n : ℕ). d + n) (length-shareRows G (suc j) ds)
 
 pub corner-box : (ds : List ℕ) → Box ds (corner ds)
 unfolding corner
@@ -111,27 +111,28 @@ module _ (p : ℕ) (pos : 0 < p) (q : ℕ) where
       })
 
   boxes-cell : {ds rs : List ℕ} → Box ds rs → (j : ℕ) {d : ℕ} {P : ℕ → Bool} → Cell p d [] P
-      → Cell p d (rowsOf (digitRow p q) j ds) (λ h. inBox p q j ds rs h && P h)
-  unfolding inBox rowsOf
+      → Cell p d (shareRows (digitRow p q) j ds) (λ h. inBox p q j ds rs h && P h)
+  unfolding inBox shareRows
   boxes-cell none j c = c
   boxes-cell (more {d} {r} {ds} {rs} l b) j {P = P} c =
       digits-cell j d r l (boxes-cell b (suc j) c) (λ h. and-assoc (begins j d r h) (inBox p q (suc j) ds rs h) (P h))
 
-  box-cell : (d r : ℕ) {ds rs : List ℕ} → d ≤ degree p → r < 2 ^ d → Box ds rs → Cell p d (rowsOf (digitRow p q) 1 ds) (inBox p q 0 (d ∷ ds) (r ∷ rs))
+  box-cell : (d r : ℕ) {ds rs : List ℕ} → d ≤ degree p → r < 2 ^ d → Box ds rs → Cell p d (shareRows (digitRow p q) 1 ds) (inBox p q 0 (d ∷ ds) (r ∷ rs))
   unfolding inBox
   box-cell d r {ds} {rs} fits l b =
-      subst (Cell p d (rowsOf (digitRow p q) 1 ds)) (fun-ext (λ h. and-comm (inBox p q 1 ds rs h) (begins 0 d r h))) (boxes-cell b 1 (powers-cell d r fits l))
+      subst (Cell p d (shareRows (digitRow p q) 1 ds)) (fun-ext (λ h. and-comm (inBox p q 1 ds rs h) (begins 0 d r h)))
+      (boxes-cell b 1 (powers-cell d r fits l))
 
   -- ---- what a box has
   pub free-box : (d : ℕ) {ds : List ℕ} → d ≤ degree p → FreeShare p q d ds → {rs : List ℕ} → Box (d ∷ ds) rs
       → passing p (inBox p q 0 (d ∷ ds) rs) * 2 ^ (total ds + d) ≡ 2 ^ degree p
-  free-box d {ds} fits free (more {r = r} l b) = rw (length-rowsOf (digitRow p q) 1 ds) at (cell-count p pos (box-cell d r fits l b) free)
+  free-box d {ds} fits free (more {r = r} l b) = rw (length-shareRows (digitRow p q) 1 ds) at (cell-count p pos (box-cell d r fits l b) free)
 
   pub box-free : (d : ℕ) (ds : List ℕ) → d ≤ degree p → passing p (inBox p q 0 (d ∷ ds) (corner (d ∷ ds))) * 2 ^ (total ds + d) ≡ 2 ^ degree p
       → FreeShare p q d ds
   unfolding corner
   box-free d ds fits share =
-      cell-free p pos (box-cell d 0 fits (pow-pos d) (corner-box ds)) (corner-origin p q 0 (d ∷ ds)) (rw (length-rowsOf (digitRow p q) 1 ds) share)
+      cell-free p pos (box-cell d 0 fits (pow-pos d) (corner-box ds)) (corner-origin p q 0 (d ∷ ds)) (rw (length-shareRows (digitRow p q) 1 ds) share)
 
   -- ---- nets
   pub net-free : (s t : ℕ) → t ≤ degree p

@@ -1,5 +1,5 @@
 -- The t-value of a pair is m + 1 less the least weight w: with m - t digits all shares are free just where m - t < w, since rows that are not free
--- stay so with more powers of x. So each level of the search takes m + 1 - t(s) to m + 1 - t(s + 1), with the bound 1 for every pair, and
+-- stay so with more powers of x. So one coordinate more takes m + 1 - t(s) to m + 1 - t(s + 1), with the bound 1 for every pair, and
 -- with 2 where q has an inverse modulo p; t(1) = 0, t(s) is at least t(s - 1), and t is at most m.
 -- Assumes nothing.
 use mathlib.Core.Path.{_≡_, sym, ap, subst}
@@ -16,9 +16,9 @@ use Rattle.net_laws.specs.Cell.{Free}
 use Rattle.net_laws.specs.Net.{Net}
 use Rattle.net_laws.specs.Smallest.{tValue-smallest}
 use Rattle.net_laws.specs.Point.{digitRow, digitRow-suc}
-use Rattle.net_laws.specs.Share.{rowsOf, length-rowsOf, net-free}
-use Rattle.net_laws.specs.Search.{share-reach, reach-share}
-use Rattle.net_laws.specs.Weight.{level, AllFree, Least, Sound, sound-one, least-zero, least-falls, least-unique, level-least}
+use Rattle.net_laws.specs.Share.{shareRows, length-shareRows, net-free}
+use Rattle.net_laws.specs.Lightest.{share-reach, reach-share}
+use Rattle.net_laws.specs.Weight.{leastWeight, AllFree, Least, Sound, sound-one, least-zero, least-falls, least-unique, leastWeight-least}
 use Rattle.net_laws.specs.Inverse.{sound-two}
 
 free-fewer : (c d : ℕ) (rs : List ℕ) → c ≤ d → Free d rs → Free c rs
@@ -26,7 +26,7 @@ unfolding Free
 free-fewer c d [] l free = tt
 free-fewer c d (r ∷ rs) l free = (omega (arith, pow-mono l, free .0), free-fewer c d rs l (free .1))
 
--- A bound that the search may count on.
+-- What is to come weighs f at least.
 abbrev pub StopBound : ℕ → ℕ → ℕ → ℕ → Type 0
 StopBound m p q f = Sound (digitRow p q) m f
 
@@ -40,11 +40,14 @@ module _ (m p : ℕ) (of : HasDegree p m) (q : ℕ) where
       out : t ≤ degree p → Net (degree p) p q (suc j) t → AllFree rows j (degree p - t)
       out le net all x c sum =
           let share = reach-share rows x in
-          rw (share .2) (net-free p (positive of) q j t le .0 net c (share .0) (share .1) (omega (arith, ap length (share .2), length-rowsOf rows 1 (share .0))))
+          rw (share .2)
+          (net-free p (positive of) q j t le .0 net c (share .0) (share .1)
+          (omega (arith, ap length (share .2), length-shareRows rows 1 (share .0))))
 
       back : t ≤ degree p → AllFree rows j (degree p - t) → Net (degree p) p q (suc j) t
       back le free =
-          net-free p (positive of) q j t le .1 (λ d ds len sum. free (rowsOf rows 1 ds) (share-reach rows j ds len) d (omega (arith, length-rowsOf rows 1 ds)))
+          net-free p (positive of) q j t le .1
+          (λ d ds len sum. free (shareRows rows 1 ds) (share-reach rows j ds len) d (omega (arith, length-shareRows rows 1 ds)))
 
   -- ---- the least weight and the t-value tell each other: w(s) = m + 1 - t(s)
   pub least-tValue : (j : ℕ) → Least rows m j (suc m - tValue m p q (suc j))
@@ -53,7 +56,8 @@ module _ (m p : ℕ) (of : HasDegree p m) (q : ℕ) where
       let S = tValue-smallest m p q (suc j) (positive of) in
       record {
         most = omega arith;
-        lighter = λ all x c l. free-fewer c (m - t - length all) all (omega arith) (net-allFree j t (S .most) .0 (S .net) all x (m - t - length all) (omega arith));
+        lighter = λ all x c l.
+            free-fewer c (m - t - length all) all (omega arith) (net-allFree j t (S .most) .0 (S .net) all x (m - t - length all) (omega arith));
         some = λ l free.
             let e : suc m - t ≡ m - (t - 1) = omega arith in
             omega (arith, S .least (t - 1) (net-allFree j (t - 1) (omega (arith, S .most)) .1 (rw e at free)));
@@ -71,14 +75,16 @@ module _ (m p : ℕ) (of : HasDegree p m) (q : ℕ) where
   pub tValue-grows : (j : ℕ) → tValue m p q (suc j) ≤ tValue m p q (suc (suc j))
   tValue-grows j = omega (arith, least-falls rows m j _ _ (least-tValue j) (least-tValue (suc j)), tValue-most (suc j))
 
-  -- ---- the search
+  -- ---- one coordinate more
   pub stop-one : StopBound m p q 1
   stop-one = sound-one rows m
 
   pub stop-two : (r : ℕ) → rem (prod r q) p ≡ rem 1 p → StopBound m p q 2
   stop-two r inverse = rw (degree-unique p m of) at (sound-two p (positive of) q r inverse)
 
-  pub level-tValue : (start : ℕ → ℕ) (f room j W : ℕ) → m ≤ room → StopBound m p q f → ((i : ℕ) → i < suc (suc j) → start i ≡ digitRow p q i 0)
-      → W ≡ suc m - tValue m p q (suc j) → level start (λ r. rem (2 * r) p) f room (suc j) W ≡ suc m - tValue m p q (suc (suc j))
-  level-tValue start f room j W fits sound starts e =
-      tValue-least (suc j) _ (level-least rows m start (λ r. rem (2 * r) p) (λ j d. sym (digitRow-suc p (positive of) q j d)) f room fits sound j W starts (rw e (least-tValue j)))
+  pub leastWeight-tValue : (start : ℕ → ℕ) (f room j W : ℕ) → m ≤ room → StopBound m p q f → ((i : ℕ) → i < suc (suc j) → start i ≡ digitRow p q i 0)
+      → W ≡ suc m - tValue m p q (suc j) → leastWeight start (λ r. rem (2 * r) p) f room (suc j) W ≡ suc m - tValue m p q (suc (suc j))
+  leastWeight-tValue start f room j W fits sound starts e =
+      tValue-least (suc j) _
+      (leastWeight-least rows m start (λ r. rem (2 * r) p) (λ j d. sym (digitRow-suc p (positive of) q j d)) f room fits sound j W starts
+      (rw e (least-tValue j)))

@@ -1,5 +1,5 @@
 -- The least weight of rows of the coordinates 0 .. j that are not free, those of coordinate 0 being powers of x; there is one only. Coordinate j + 1
--- is added to what is known of those below it: rows without one of its own are among theirs, so the search begins with its first row taken.
+-- is added to what is known of those below it: rows without one of its own are among theirs, so its first row is taken from the start.
 -- Assumes nothing.
 use mathlib.Core.Path.{_≡_, refl}
 use mathlib.Core.List.{List, [], _∷_}
@@ -10,11 +10,11 @@ use lib.ListN.{length}
 use Rattle.net_laws.specs.Reduction.{reduce, basis}
 use Rattle.net_laws.specs.Cell.{Free}
 use Rattle.net_laws.specs.Size.{size}
-use Rattle.net_laws.specs.Search.{search, Reach, here, leave, take, Lighter, Floor, Best, withRow, best-turn, known-more, search-best}
+use Rattle.net_laws.specs.Lightest.{lightest, Reach, here, leave, take, Lighter, Bounded, Best, withRow, best-turn, known-more, lightest-best}
 
 -- The least weight with coordinate j, where W is the least without it.
-unfoldable pub level : (ℕ → ℕ) → (ℕ → ℕ) → ℕ → ℕ → ℕ → ℕ → ℕ
-level start next f room j W = search start next f (j + room) j (next (start j)) 1 (start j ∷ []) (min W (1 + size (start j)))
+unfoldable pub leastWeight : (ℕ → ℕ) → (ℕ → ℕ) → ℕ → ℕ → ℕ → ℕ → ℕ
+leastWeight start next f room j W = lightest start next f (j + room) j (next (start j)) 1 (start j ∷ []) (min W (1 + size (start j)))
 
 -- All rows of the weight w are free.
 abbrev pub AllFree : (ℕ → ℕ → ℕ) → ℕ → ℕ → Type 0
@@ -45,9 +45,9 @@ module _ (G : ℕ → ℕ → ℕ) (m : ℕ) where
       none : Lighter G 0 0 [] (suc m)
       none all here c l = tt
 
-  -- The bound f serves the search at every level.
+  -- The bound f holds for every coordinate that is added.
   abbrev pub Sound : ℕ → Type 0
-  Sound f = (j W : ℕ) → Least j W → Floor G f (suc j) 0 [] W
+  Sound f = (j W : ℕ) → Least j W → Bounded G f (suc j) 0 [] W
 
   pub sound-one : Sound 1
   sound-one j W least all x c few l = absurd (omega arith)
@@ -67,10 +67,11 @@ module _ (G : ℕ → ℕ → ℕ) (m : ℕ) where
       }
 
   module _ (start next : ℕ → ℕ) (behind : (j d : ℕ) → next (G j d) ≡ G j (suc d)) (f room : ℕ) (fits : m ≤ room) (sound : Sound f) where
-    pub level-least : (j W : ℕ) → ((i : ℕ) → i < suc (suc j) → start i ≡ G i 0) → Least j W → Least (suc j) (level start next f room (suc j) W)
-    unfolding level basis reduce Free
-    level-least j W starts least =
+    pub leastWeight-least : (j W : ℕ) → ((i : ℕ) → i < suc (suc j) → start i ≡ G i 0) → Least j W → Least (suc j) (leastWeight start next f room (suc j) W)
+    unfolding leastWeight basis reduce Free
+    leastWeight-least j W starts least =
         rw (starts (suc j) (omega arith), behind (suc j) 0)
         (least-more j W _ least
-        (search-best G start next behind f m (suc j + room) (suc j) 1 (G (suc j) 0 ∷ []) (withRow G (suc j) 0 [] W) (λ i l. starts i (omega arith))
-        (omega (arith, least .most)) (omega arith) (known-more G (suc j) 0 [] W (λ c l. tt)) (λ all x c few l. sound j W least all (take x) c few (omega arith))))
+        (lightest-best G start next behind f m (suc j + room) (suc j) 1 (G (suc j) 0 ∷ []) (withRow G (suc j) 0 [] W) (λ i l. starts i (omega arith))
+        (omega (arith, least .most)) (omega arith) (known-more G (suc j) 0 [] W (λ c l. tt))
+        (λ all x c few l. sound j W least all (take x) c few (omega arith))))

@@ -12,8 +12,9 @@ use lib.Dec.{eqb}
 use lib.Pow.{pow-pos}
 use Rattle.definitions.specs.Number.{gcd, count, bit}
 use Rattle.definitions.specs.Polynomial.{rem}
-use Rattle.definitions.specs.Generator.{leastDegree, largestDegree, period, primitive, step, coprimeStep}
+use Rattle.definitions.specs.Generator.{period, primitive, step, coprimeStep}
 use Rattle.definitions.specs.Points.{state}
+use Rattle.number_laws.specs.Bounds.{LawfulDegree}
 use Rattle.number_laws.specs.Truth.{eqb-is, truth-equal}
 use Rattle.number_laws.specs.Gcd.{multiples-apart, remainder-mul}
 use Rattle.number_laws.specs.Primes.{PrimeDivisors}
@@ -74,8 +75,8 @@ module _ (m p : ℕ) (positive : 1 ≤ m) (d : HasDegree p m) (t : primitive m p
   period-recurs = recurs-divides (period m) .1 (dvd-mul-right (period m) (step m p q))
 
   -- ---- a coprime step by powers of q alone, over the table: the step need not be known
-  pub coprimeStep-noneOf : leastDegree ≤ m → m ≤ largestDegree → coprimeStep m p q ≡ noneOf (recurs p q) (period m) (divisorsOf m)
-  coprimeStep-noneOf low high =
+  pub coprimeStep-noneOf : LawfulDegree m → coprimeStep m p q ≡ noneOf (recurs p q) (period m) (divisorsOf m)
+  coprimeStep-noneOf lawful =
       truth-equal _ _ (
         λ c.
             computed .1 (λ r k e.
@@ -86,7 +87,7 @@ module _ (m p : ℕ) (positive : 1 ≤ m) (d : HasDegree p m) (t : primitive m p
       )
     where
       rule : PrimeDivisors (period m) (divisorsOf m)
-      rule = table-rule m low high
+      rule = table-rule m lawful
 
       computed : (noneOf (recurs p q) (period m) (divisorsOf m) ≡ true) ↔ ((r : ℕ) → List·Memᴰ r (divisorsOf m) → ¬ Recurs p q (period m / r))
       computed = noneOf-is (Recurs p q) (recurs p q) (λ e. eqb-is (state p q e) 1) (period m) (divisorsOf m)

@@ -9,7 +9,8 @@ use lib.Dec.{eqb}
 use borrow.Author.Tests.{eqb-true, eq-eqb}
 use Rattle.definitions.specs.Number.{first}
 use Rattle.definitions.specs.Polynomial.{rem}
-use Rattle.definitions.specs.Generator.{leastDegree, largestDegree, period, order, primitive}
+use Rattle.definitions.specs.Generator.{period, order, primitive}
+use Rattle.number_laws.specs.Bounds.{LawfulDegree}
 use Rattle.number_laws.specs.First.{first-passes, first-before, first-unique}
 use Rattle.number_laws.specs.Truth.{eqb-is, truth-equal, truth-false, not-both, le-unless}
 use Rattle.order_laws.specs.Exponents.{Tested, smallest-test, tested, tested-is}
@@ -48,15 +49,16 @@ module _ (m p : ℕ) (positive : 1 ≤ m) where
   primitive-is = (primitive-order, order-primitive)
 
 -- ---- the ordinary test over the table
-module _ (m p : ℕ) (low : leastDegree ≤ m) (high : m ≤ largestDegree) (big : 2 ≤ p) where
+module _ (m p : ℕ) (h : LawfulDegree m) (big : 2 ≤ p) where
   pub primitive-table : primitive m p ≡ tested (returns p) (period m) (divisorsOf m)
   primitive-table = truth-equal _ _ (λ t. computed .1 (meaning .0 (order .0 t)), λ t. order .1 (meaning .1 (computed .0 t)))
     where
       order : (primitive m p ≡ true) ↔ IsOrder p (period m)
-      order = primitive-is m p (omega arith)
+      order = primitive-is m p (omega (arith, h .low))
 
       meaning : IsOrder p (period m) ↔ Tested (Returns p) (period m) (divisorsOf m)
-      meaning = smallest-test (Returns p) (returns-closed p big) (period m) (divisorsOf m) (period-positive m (omega arith)) (table-rule m low high)
+      meaning =
+          smallest-test (Returns p) (returns-closed p big) (period m) (divisorsOf m) (period-positive m (omega (arith, h .low))) (table-rule m h)
 
       computed : (tested (returns p) (period m) (divisorsOf m) ≡ true) ↔ Tested (Returns p) (period m) (divisorsOf m)
       computed = tested-is (Returns p) (returns p) (returns-is p) (period m) (divisorsOf m)

@@ -2,14 +2,17 @@
 -- Its rule is proved once over the table: dividing out the smallest divisor, computed, finds exactly the numbers listed.
 -- Assumes nothing.
 use mathlib.Core.Path.{_≡_, refl}
-use mathlib.Core.Bool.{true}
+use mathlib.Core.Bool.{Bool, true}
 use mathlib.Core.List.{List, [], _∷_}
 use Prim.Native.Nat.{ℕ, suc, _+_, _-_, _≤_, _<_}
 use native.Mathlib.Omega.{arith}
-use lib.ListN.{getD}
+use lib.Dec.{leb}
+use lib.ListN.{length, getD}
 use lib.Pow.{pow-mono}
+use borrow.Author.Tests.{leb-true}
 use Rattle.definitions.specs.Number.{first, every, all}
 use Rattle.definitions.specs.Generator.{leastDegree, largestDegree, period}
+use Rattle.number_laws.specs.Bounds.{LawfulDegree}
 use Rattle.number_laws.specs.Every.{every-out}
 use Rattle.number_laws.specs.Lists.{contains}
 use Rattle.number_laws.specs.Primes.{PrimeDivisors, smallestDivisor, primeFactorsWithin, primeFactors, listsPrimes, lists-primes}
@@ -38,15 +41,36 @@ unfoldable pub divisorsOf : ℕ → List ℕ
 unfolding divisorTable
 divisorsOf m = getD divisorTable (m - leastDegree) []
 
+-- No list is longer.
+abbrev pub places : ℕ
+places = 4
+
+-- How many degrees the library covers.
+abbrev pub degrees : ℕ
+degrees = suc largestDegree - leastDegree
+
+-- What is computed of each degree that the library covers holds of any of them.
+each-degree : (test : ℕ → Bool) → every degrees (λ i. test (i + leastDegree)) ≡ true → (m : ℕ) → LawfulDegree m → test m ≡ true
+each-degree test computed m h =
+    let e : m - leastDegree + leastDegree ≡ m = omega (arith, h .low) in
+    rw e at (every-out degrees (λ i. test (i + leastDegree)) computed (m - leastDegree) (omega (arith, h .low, h .high)))
+
+fit-computed : every degrees (λ i. leb (length (divisorsOf (i + leastDegree))) places) ≡ true
+unfolding every divisorTable divisorsOf
+fit-computed = refl
+
+pub divisors-fit : (m : ℕ) → LawfulDegree m → length (divisorsOf m) ≤ places
+divisors-fit m h = leb-true _ _ (each-degree (λ n. leb (length (divisorsOf n)) places) fit-computed m h)
+
 -- Each list has exactly the prime divisors of its 2^m - 1.
-table-computed : every (suc largestDegree - leastDegree) (λ i. listsPrimes (period (i + leastDegree)) (divisorsOf (i + leastDegree))) ≡ true
+table-computed : every degrees (λ i. listsPrimes (period (i + leastDegree)) (divisorsOf (i + leastDegree))) ≡ true
 unfolding every all first contains smallestDivisor primeFactorsWithin primeFactors listsPrimes divisorTable divisorsOf
 table-computed = refl
 
 pub period-positive : (m : ℕ) → 1 ≤ m → 0 < period m
 period-positive m h = omega (arith, pow-mono h)
 
-pub table-rule : (m : ℕ) → leastDegree ≤ m → m ≤ largestDegree → PrimeDivisors (period m) (divisorsOf m)
-table-rule m h k =
-    let e : m - leastDegree + leastDegree ≡ m = omega arith in
-    lists-primes (period m) (divisorsOf m) (period-positive m (omega arith)) (rw e at (every-out _ _ table-computed (m - leastDegree) (omega arith)))
+pub table-rule : (m : ℕ) → LawfulDegree m → PrimeDivisors (period m) (divisorsOf m)
+table-rule m h =
+    lists-primes (period m) (divisorsOf m) (period-positive m (omega (arith, h .low)))
+    (each-degree (λ n. listsPrimes (period n) (divisorsOf n)) table-computed m h)

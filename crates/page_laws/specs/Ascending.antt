@@ -1,17 +1,18 @@
--- Lists that ascend strictly: each element stands above the place, or the element, before it. Then so do all members, no member comes twice,
--- and the members determine the list, since the least one comes first. All elements of the list are above the place it ascends from.
+-- Lists that ascend strictly: each element stands above the cut, or behind the element, before it. Then so do all members, no member comes
+-- twice, and the members determine the list, since the least one comes first. All elements of the list are above the cut it ascends from.
 -- Assumes nothing.
 use mathlib.Core.Path.{_≡_, refl, sym, ap₂, _∙_}
 use mathlib.Core.Bool.{true}
 use mathlib.Core.List.{List, [], _∷_, List·Memᴰ, List·Memᴰ·head, List·Memᴰ·tail, List·Memᴰ·not-nil, List·Nodup, Pairwise·nil}
 use Prim.Native.Nat.{ℕ}
 use Rattle.definitions.specs.Number.{keep}
-use Rattle.definitions.specs.Pages.{before, Place, start, after, above, rest}
+use Rattle.definitions.specs.Pages.{before, Cut, start, after, above, rest}
+use Rattle.number_laws.specs.Truth.{not-both}
 use Rattle.number_laws.specs.Lists.{nodup-more}
-use Rattle.page_laws.specs.Key.{before-self, before-trans, before-asym, not-both}
+use Rattle.page_laws.specs.Key.{before-self, before-trans, before-asym}
 use Rattle.page_laws.specs.Members.{Within}
 
--- ---- places
+-- ---- cuts
 
 pub above-start : (k : List ℕ) → above start k ≡ true
 unfolding above
@@ -21,26 +22,26 @@ pub above-after : (j k : List ℕ) → above (after j) k ≡ before j k
 unfolding above
 above-after j k = refl
 
-pub above-trans : (at : Place) (j k : List ℕ) → above at j ≡ true → before j k ≡ true → above at k ≡ true
+pub above-trans : (at : Cut) (j k : List ℕ) → above at j ≡ true → before j k ≡ true → above at k ≡ true
 unfolding above
 above-trans start j k h t = refl
 above-trans (after i) j k h t = before-trans i j k h t
 
 -- ---- ascending lists
 
--- Each element stands above the place, or behind the element, before it.
-unfoldable pub Ascends : {X : Type 0} → (X → List ℕ) → Place → List X → Type 0
+-- Each element stands above the cut, or behind the element, before it.
+unfoldable pub Ascends : {X : Type 0} → (X → List ℕ) → Cut → List X → Type 0
 Ascends key at [] = Unit {0}
 Ascends key at (x ∷ l) = (above at (key x) ≡ true) × Ascends key (after (key x)) l
 
 module _ {X : Type 0} (key : X → List ℕ) where
-  -- A list that ascends from a key ascends from each place below the key.
-  pub ascends-below : (at : Place) (k : List ℕ) (l : List X) → above at k ≡ true → Ascends key (after k) l → Ascends key at l
+  -- A list that ascends from a key ascends from each cut below the key.
+  pub ascends-below : (at : Cut) (k : List ℕ) (l : List X) → above at k ≡ true → Ascends key (after k) l → Ascends key at l
   unfolding Ascends above
   ascends-below at k [] h a = tt
   ascends-below at k (x ∷ l) h a = (above-trans at k (key x) h (a .0), a .1)
 
-  pub rest-all : (at : Place) (l : List X) → Ascends key at l → rest key at l ≡ l
+  pub rest-all : (at : Cut) (l : List X) → Ascends key at l → rest key at l ≡ l
   unfolding Ascends rest keep
   rest-all at [] a = refl
   rest-all at (x ∷ l) a = rw (a .0, rest-all at l (ascends-below at (key x) l (a .0) (a .1)))
@@ -53,7 +54,7 @@ module _ {X : Type 0} (key : X → List ℕ) where
   first-once : {x : X} {l : List X} → Ascends key (after (key x)) l → List·Memᴰ x l → ⊥
   first-once {x} a m = not-both (member-behind (key x) a m) (before-self (key x))
 
-  pub ascends-once : (at : Place) (l : List X) → Ascends key at l → List·Nodup l
+  pub ascends-once : (at : Cut) (l : List X) → Ascends key at l → List·Nodup l
   unfolding Ascends
   ascends-once at [] a = Pairwise·nil
   ascends-once at (x ∷ l) a = nodup-more (first-once (a .1)) (ascends-once (after (key x)) l (a .1))
@@ -66,7 +67,7 @@ module _ {X : Type 0} (key : X → List ℕ) where
       go (List·Memᴰ·head h) = absurd (first-once a (rw (h ∙ sym e) at i))
       go (List·Memᴰ·tail j) = j
 
-  pub same-members : (at at′ : Place) (l m : List X) → Ascends key at l → Ascends key at′ m → Within l m → Within m l → l ≡ m
+  pub same-members : (at at′ : Cut) (l m : List X) → Ascends key at l → Ascends key at′ m → Within l m → Within m l → l ≡ m
   unfolding Ascends
   same-members at at′ [] [] a b there back = refl
   same-members at at′ [] (y ∷ m) a b there back = absurd (List·Memᴰ·not-nil (back y (List·Memᴰ·head refl)))

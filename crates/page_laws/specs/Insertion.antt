@@ -1,6 +1,6 @@
 -- Insertion puts an element in before the first that it stands before. That it is put in somewhere gives lengths and members; where its key is
 -- a new one, the list goes on to ascend. Sorting inserts one element after the other, so lists of the same members, with keys of their own,
--- are sorted alike. The first k of an insertion, and those above a place, come from the first k, and from those above it. Assumes nothing.
+-- are sorted alike. The first k of an insertion, and those above a cut, come from the first k, and from those above it. Assumes nothing.
 use mathlib.Core.Path.{_≡_, refl, sym, ap}
 use mathlib.Core.Bool.{Bool, true, false, cond}
 use mathlib.Core.List.{List, [], _∷_, map, List·Memᴰ, List·Memᴰ·head, List·Memᴰ·tail, List·Memᴰ·not-nil, Memᴰ·cast, List·Nodup}
@@ -9,9 +9,10 @@ use native.Mathlib.Omega.{arith}
 use lib.ListN.{length, take}
 use lib.Seq.{take-take}
 use Rattle.definitions.specs.Number.{keep, putIf}
-use Rattle.definitions.specs.Pages.{before, Place, start, after, above, insert, insertAll, sort, rest}
+use Rattle.definitions.specs.Pages.{before, Cut, start, after, above, insert, insertAll, sort, rest}
+use Rattle.number_laws.specs.Truth.{by-test}
 use Rattle.number_laws.specs.Lists.{nodup-fresh, nodup-tail}
-use Rattle.page_laws.specs.Key.{before-either, by-test}
+use Rattle.page_laws.specs.Key.{before-either}
 use Rattle.page_laws.specs.Members.{Within, each-more}
 use Rattle.page_laws.specs.Ascending.{Ascends, above-trans, same-members}
 
@@ -72,18 +73,18 @@ module _ {X : Type 0} (key : X → List ℕ) where
       (λ t. rw (t, take-take k (suc k) (x ∷ l) (omega arith)))
       (λ f. rw (f, take-insert k r l))
 
-  pub rest-insert : (at : Place) (r : X) (l : List X) → above at (key r) ≡ true → rest key at (insert key r l) ≡ insert key r (rest key at l)
+  pub rest-insert : (at : Cut) (r : X) (l : List X) → above at (key r) ≡ true → rest key at (insert key r l) ≡ insert key r (rest key at l)
   unfolding insert rest keep
   rest-insert at r [] h = rw h
   rest-insert at r (x ∷ l) h = by-test (before (key r) (key x))
       (λ t. rw (t, h, above-trans at (key r) (key x) h t, t))
       (λ f. rw f (by-test (above at (key x)) (λ t. rw (t, f, rest-insert at r l h)) (λ g. rw g (rest-insert at r l h))))
 
-  pub rest-insert-none : (at : Place) (r : X) (l : List X) → above at (key r) ≡ false → rest key at (insert key r l) ≡ rest key at l
+  pub rest-insert-none : (at : Cut) (r : X) (l : List X) → above at (key r) ≡ false → rest key at (insert key r l) ≡ rest key at l
   unfolding rest
   rest-insert-none at r l f = put-keep (λ (x : X). above at (key x)) f (insert-put r l)
 
-  insert-ascends : (at : Place) (r : X) (l : List X) → above at (key r) ≡ true → (List·Memᴰ (key r) (map key l) → ⊥)
+  insert-ascends : (at : Cut) (r : X) (l : List X) → above at (key r) ≡ true → (List·Memᴰ (key r) (map key l) → ⊥)
       → Ascends key at l → Ascends key at (insert key r l)
   unfolding Ascends insert above
   insert-ascends at r [] h fresh a = (h, tt)

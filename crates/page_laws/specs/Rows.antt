@@ -1,16 +1,17 @@
--- Rows of one width in a flat list, from its front: `rowsOf` reads them, `laid` writes them over what stands there. Row by row: rows laid are
--- read back, and more rows laid over fewer are as if laid at once. An insertion among rows read, laid again, puts the new row in at its slot
--- and moves those behind it up by a width; where there is no room the last falls off. Assumes nothing.
+-- Rows of one width in a flat list, from its front: `rowsOf` reads them, and joined they are written `over` what stands there. Rows written are
+-- read back. An insertion among rows read, written again, puts the new row in at its slot and moves those behind it up by a width, as the rows
+-- before the slot stand there already; where there is no room the last falls off. Assumes nothing.
 use mathlib.Core.Path.{_≡_, refl, sym, ap, _∙_}
 use mathlib.Core.Bool.{true, false}
 use mathlib.Core.List.{List, [], _∷_, _++_, append-assoc, List·Memᴰ, List·Memᴰ·head, List·Memᴰ·tail, List·Memᴰ·not-nil}
 use Prim.Native.Nat.{ℕ, zero, suc, _+_, _*_, _<_, _≤_, min}
-use native.Mathlib.Nat.{suc-mul, zero-mul, add-comm, add-assoc, suc-add, zero-add}
+use native.Mathlib.Nat.{suc-mul, zero-mul, add-comm, suc-add, zero-add, mul-le-mul-right, le-trans}
 use native.Mathlib.Omega.{arith}
-use lib.ListN.{length, take, drop, getD, length-take, length-drop, length-append, take-append-drop}
-use lib.Seq.{take-all, take-take, take-add, drop-drop, take-nil, length-take-le, slice, take-at, drop-at}
-use Rattle.definitions.specs.Number.{join}
-use Rattle.definitions.specs.Pages.{before, insert, laid}
+use lib.ListN.{length, take, drop, getD, length-take, length-drop, length-append}
+use lib.Seq.{take-all, take-take, take-add, drop-drop, take-nil, drop-nil, length-take-le, slice, take-at, drop-at}
+use Rattle.definitions.specs.Number.{join, over}
+use Rattle.definitions.specs.Pages.{before, insert}
+use Rattle.slice_laws.specs.Over.{over-front-append, over-same, over-append}
 use Rattle.page_laws.specs.Insertion.{insert-put, put-length}
 use Rattle.page_laws.specs.Slot.{slot, Ordered, insert-slot, slot-most, slot-down, slot-up}
 
@@ -23,13 +24,13 @@ rowsOf w (suc n) s = take w s ∷ rowsOf w n (drop w s)
 abbrev pub Wide : ℕ → List (List ℕ) → Type 0
 Wide w rows = (r : List ℕ) → List·Memᴰ r rows → length r ≡ w
 
--- r put in at `from`, and the numbers from there up to `to` moved up by w, over those that stand there.
-unfoldable pub spliced : ℕ → ℕ → ℕ → List ℕ → List ℕ → List ℕ
-spliced from to w r s = take from s ++ (r ++ (slice from to s ++ drop (to + w) s))
-
 -- The numbers from `from` up to `to` moved up by w.
-unfoldable pub shifted : ℕ → ℕ → ℕ → List ℕ → List ℕ
-shifted from to w s = take (from + w) s ++ (slice from to s ++ drop (to + w) s)
+abbrev pub shifted : ℕ → ℕ → ℕ → List ℕ → List ℕ
+shifted from to w s = over (from + w) (slice from to s) s
+
+-- r put in at `from`, and the numbers from there up to `to` moved behind it.
+abbrev pub spliced : ℕ → ℕ → List ℕ → List ℕ → List ℕ
+spliced from to r s = over from (r ++ slice from to s) s
 
 -- A lent list, and how many rows are kept at its front.
 pub record Kept : Type 0 where
@@ -38,7 +39,18 @@ pub record Kept : Type 0 where
 
 -- A row put in its slot among those kept, of which at most cap stay.
 unfoldable pub inserted : (List ℕ → List ℕ) → ℕ → ℕ → List ℕ → Kept → Kept
-inserted key w cap r s = let rows = take cap (insert key r (rowsOf w (s .n) (s .out))) in record { out = laid w rows (s .out); n = length rows }
+inserted key w cap r s = let rows = take cap (insert key r (rowsOf w (s .n) (s .out))) in record { out = over 0 (join rows) (s .out); n = length rows }
+
+-- ---- lists of lists joined
+
+join-append : (a b : List (List ℕ)) → join (a ++ b) ≡ join a ++ join b
+join-append [] b = refl
+join-append (r ∷ a) b = rw (join-append a b) (sym (append-assoc r (join a) (join b)))
+
+drop-take : {X : Type 0} (n m : ℕ) (l : List X) → drop n (take (n + m) l) ≡ take m (drop n l)
+drop-take zero m l = rw zero-add
+drop-take (suc n) m [] = rw (take-nil (suc n + m), take-nil m)
+drop-take (suc n) m (x ∷ l) = rw suc-add (drop-take n m l)
 
 module _ (w : ℕ) where
   width-first : (n : ℕ) → suc n * w ≡ w + n * w
@@ -68,59 +80,42 @@ module _ (w : ℕ) where
   join-rows zero s = rw zero-mul
   join-rows (suc n) s = rw (width-first, take-add, join-rows n (drop w s))
 
+  -- The rows from row p on.
+  join-later : (p q : ℕ) (s : List ℕ) → join (drop p (rowsOf w q s)) ≡ slice (p * w) (q * w) s
+  unfolding rowsOf
+  join-later zero q s = rw zero-mul (join-rows q s)
+  join-later (suc p) zero s = rw zero-mul (sym (drop-nil (suc p * w)))
+  join-later (suc p) (suc q) s =
+      join-later p q (drop w s) ∙ rw (width-first p, width-first q, ← drop-drop (p * w) w (take (w + q * w) s), drop-take)
+
   pub rows-wide : (n : ℕ) (s : List ℕ) → n * w ≤ length s → Wide w (rowsOf w n s)
   unfolding rowsOf
   rows-wide zero s h r i = absurd (List·Memᴰ·not-nil i)
   rows-wide (suc n) s h r (List·Memᴰ·head e) = rw e (length-take-le w s (omega (arith, width-first n)))
   rows-wide (suc n) s h r (List·Memᴰ·tail i) = rows-wide n (drop w s) (omega (arith, width-first n, length-drop w s)) r i
 
-  -- ---- rows laid
+  -- ---- rows written
 
-  pub laid-none : (s : List ℕ) → laid w [] s ≡ s
-  unfolding laid
-  laid-none s = rw zero-mul
+  pub length-join : (rows : List (List ℕ)) → Wide w rows → length (join rows) ≡ length rows * w
+  length-join [] wide = sym (zero-mul w)
+  length-join (r ∷ rows) wide =
+      let others = length-join rows (λ x i. wide x (List·Memᴰ·tail i)) in
+      rw (length-append, width-first) (omega (arith, wide r (List·Memᴰ·head refl)))
 
-  laid-more : (r : List ℕ) (rows : List (List ℕ)) (s : List ℕ) → laid w (r ∷ rows) s ≡ r ++ laid w rows (drop w s)
-  unfolding laid
-  laid-more r rows s = rw (width-first, drop-drop) (append-assoc r (join rows) (drop (w + length rows * w) s))
+  -- Rows as they stand, written where they stand.
+  rows-same : (n : ℕ) (s : List ℕ) → over 0 (join (rowsOf w n s)) s ≡ s
+  rows-same n s = rw join-rows (over-same (n * w) s)
 
-  pub length-laid : (rows : List (List ℕ)) (s : List ℕ) → Wide w rows → length rows * w ≤ length s → length (laid w rows s) ≡ length s
-  length-laid [] s wide h = ap length (laid-none s)
-  length-laid (r ∷ rows) s wide h =
-      let e = width-first (length rows) in
-      let l = length-drop w s in
-      let others = length-laid rows (drop w s) (λ x i. wide x (List·Memᴰ·tail i)) (omega arith) in
-      rw (laid-more, length-append) (omega (arith, wide r (List·Memᴰ·head refl)))
-
-  -- Rows as they stand, laid where they stand.
-  rows-laid : (n : ℕ) (s : List ℕ) → laid w (rowsOf w n s) s ≡ s
+  -- Rows written are read back.
+  pub rows-back : (rows : List (List ℕ)) (s : List ℕ) → Wide w rows → rowsOf w (length rows) (over 0 (join rows) s) ≡ rows
   unfolding rowsOf
-  rows-laid zero s = laid-none s
-  rows-laid (suc n) s = laid-more (take w s) (rowsOf w n (drop w s)) s ∙ rw (rows-laid n (drop w s)) (take-append-drop w s)
-
-  -- Rows laid are read back.
-  pub laid-rows : (rows : List (List ℕ)) (s : List ℕ) → Wide w rows → rowsOf w (length rows) (laid w rows s) ≡ rows
-  unfolding rowsOf
-  laid-rows [] s wide = refl
-  laid-rows (r ∷ rows) s wide =
+  rows-back [] s wide = refl
+  rows-back (r ∷ rows) s wide =
       let e = wide r (List·Memᴰ·head refl) in
-      let others = laid-rows rows (drop w s) (λ x i. wide x (List·Memᴰ·tail i)) in
-      rw (laid-more, take-at r (laid w rows (drop w s)) w e, drop-at r (laid w rows (drop w s)) w e, others)
-
-  -- More rows laid over fewer.
-  pub laid-laid : (m n : List (List ℕ)) (s : List ℕ) → Wide w m → length m ≤ length n → laid w n (laid w m s) ≡ laid w n s
-  laid-laid [] n s wide h = ap (laid w n) (laid-none s)
-  laid-laid (a ∷ m) [] s wide h = absurd (omega arith)
-  laid-laid (a ∷ m) (b ∷ n) s wide h =
-      let others = laid-laid m n (drop w s) (λ x i. wide x (List·Memᴰ·tail i)) (omega arith) in
-      simp laid-more (rw (drop-at a (laid w m (drop w s)) w (wide a (List·Memᴰ·head refl)), others))
+      let behind = over 0 (join rows) (drop (length r) s) in
+      rw (over-front-append r (join rows) s, take-at r behind w e, drop-at r behind w e, rows-back rows (drop (length r) s) (λ x i. wide x (List·Memᴰ·tail i)))
 
 -- ---- a row put in
-
-drop-take : {X : Type 0} (n m : ℕ) (l : List X) → drop n (take (n + m) l) ≡ take m (drop n l)
-drop-take zero m l = rw zero-add
-drop-take (suc n) m [] = rw (take-nil (suc n + m), take-nil m)
-drop-take (suc n) m (x ∷ l) = rw suc-add (drop-take n m l)
 
 -- The first q + 1 of a list with an element put in at p, no later than q: the first q, with it put in there.
 take-put-in : {X : Type 0} (p q : ℕ) (r : X) (l : List X) → p ≤ q → take (suc q) (take p l ++ (r ∷ drop p l)) ≡ take p (take q l) ++ (r ∷ drop p (take q l))
@@ -129,22 +124,16 @@ take-put-in (suc p) zero r l h = absurd (omega arith)
 take-put-in (suc p) (suc q) r [] h = refl
 take-put-in (suc p) (suc q) r (x ∷ l) h = rw (take-put-in p q r l (omega arith))
 
-module _ (w : ℕ) (r : List ℕ) where
-  spliced-first : (q : ℕ) (s : List ℕ) → spliced (zero * w) (q * w) w r s ≡ laid w (r ∷ rowsOf w q s) s
-  unfolding spliced laid
-  spliced-first q s = rw (zero-mul, join-rows w q s, length-rows w q s, suc-mul) (sym (append-assoc r (take (q * w) s) (drop (q * w + w) s)))
-
-  spliced-next : (p q : ℕ) (s : List ℕ) → spliced (suc p * w) (suc q * w) w r s ≡ take w s ++ spliced (p * w) (q * w) w r (drop w s)
-  unfolding spliced
-  spliced-next p q s =
-      rw (width-first w p, width-first w q, take-add w (p * w) s, ← drop-drop (p * w) w (take (w + q * w) s), drop-take, add-assoc, ← drop-drop (q * w + w) w s)
-      (append-assoc (take w s) (take (p * w) (drop w s)) _)
-
-  spliced-rows : (p q : ℕ) (s : List ℕ) → p ≤ q → spliced (p * w) (q * w) w r s ≡ laid w (take p (rowsOf w q s) ++ (r ∷ drop p (rowsOf w q s))) s
-  unfolding rowsOf
-  spliced-rows zero q s h = spliced-first q s
-  spliced-rows (suc p) zero s h = absurd (omega arith)
-  spliced-rows (suc p) (suc q) s h = rw (spliced-next, laid-more, spliced-rows p q (drop w s) (omega arith))
+-- The rows before it stand there already.
+spliced-rows : (w p q : ℕ) (r s : List ℕ) → p ≤ q → p * w ≤ length s
+    → spliced (p * w) (q * w) r s ≡ over 0 (join (take p (rowsOf w q s) ++ (r ∷ drop p (rowsOf w q s)))) s
+spliced-rows w p q r s h room =
+    let front = take (p * w) s in
+    let behind = r ++ slice (p * w) (q * w) s in
+    let place : 0 + length front ≡ p * w = omega (arith, length-take-le (p * w) s room) in
+    let numbers : join (take p (rowsOf w q s) ++ (r ∷ drop p (rowsOf w q s))) ≡ front ++ behind =
+    join-append (take p (rowsOf w q s)) _ ∙ rw (take-rows w p q s h, join-rows, join-later) in
+    rw (numbers, ← over-append 0 front behind s (omega arith), over-same, place)
 
 -- ---- the slot among rows read
 
@@ -163,10 +152,10 @@ module _ (key : List ℕ → List ℕ) (w cap : ℕ) (r s : List ℕ) (n p : ℕ
   insert-rows = rw at (insert-slot key r (rowsOf w n s))
 
   -- k rows are kept, the new one and q of the others.
-  pub inserted-spliced : (q k : ℕ) {out : List ℕ} → p ≤ q → k ≡ suc q → k ≡ min cap (suc n) → out ≡ spliced (p * w) (q * w) w r s
+  pub inserted-spliced : (q k : ℕ) {out : List ℕ} → p ≤ q → k ≡ suc q → k ≡ min cap (suc n) → q * w ≤ length s → out ≡ spliced (p * w) (q * w) r s
       → _≡_ {A = Kept} (record { out = out; n = k }) (inserted key w cap r (record { out = s; n = n }))
   unfolding inserted
-  inserted-spliced q k h e f g =
+  inserted-spliced q k h e f room g =
       let all = insert key r (rowsOf w n s) in
       let long : length all ≡ suc n = put-length (insert-put key r (rowsOf w n s)) ∙ ap suc (length-rows w n s) in
       let those : take cap all ≡ take p (rowsOf w q s) ++ (r ∷ drop p (rowsOf w q s)) =
@@ -174,7 +163,8 @@ module _ (key : List ℕ → List ℕ) (w cap : ℕ) (r s : List ℕ) (n p : ℕ
       ∙ take-take k cap all (omega arith)
       ∙ rw (e, insert-rows, take-put-in p q r (rowsOf w n s) h, take-rows w q n s (omega arith)) in
       let number : k ≡ length (take cap all) = omega (arith, length-take cap all) in
-      λ i. record { out = (g ∙ spliced-rows w r p q s h ∙ ap (λ (rows : List (List ℕ)). laid w rows s) (sym those)) i; n = number i }
+      let written = g ∙ spliced-rows w p q r s h (le-trans (mul-le-mul-right w h) room) ∙ ap (λ (rows : List (List ℕ)). over 0 (join rows) s) (sym those) in
+      λ i. record { out = written i; n = number i }
 
   -- The new row falls off.
   pub inserted-none : n ≡ cap → n ≤ p → _≡_ {A = Kept} (record { out = s; n = n }) (inserted key w cap r (record { out = s; n = n }))
@@ -183,4 +173,4 @@ module _ (key : List ℕ → List ℕ) (w cap : ℕ) (r s : List ℕ) (n p : ℕ
       let rows = rowsOf w n s in
       let l : length rows ≡ n = length-rows w n s in
       let those : take cap (insert key r rows) ≡ rows = rw (insert-rows, take-all p rows (omega arith)) (take-at rows (r ∷ drop p rows) cap (l ∙ e)) in
-      rw those (λ i. record { out = sym (rows-laid w n s) i; n = sym l i })
+      rw those (λ i. record { out = sym (rows-same w n s) i; n = sym l i })

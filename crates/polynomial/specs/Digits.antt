@@ -1,10 +1,10 @@
--- Digits of words: the degree is what leading zeros leave of 32, a power of x is a shift of 1, and a mask of one digit tells that digit.
+-- Digits of words: the degree is what leading zeros leave of 32, and a mask of one digit tells that digit.
 -- Assumes nothing.
 use mathlib.Core.Path.{_≡_, ap, _∙_}
 use Prim.Native.Nat.{ℕ, suc, _+_, _-_, _*_, _/_, _%_, _^_, _≤_, _<_}
-use native.Mathlib.Nat.{one-mul, zero-mul, lt-of-not-le, mod-eq-of-lt, div-eq-of-lt}
+use native.Mathlib.Nat.{zero-mul, lt-of-not-le, div-eq-of-lt}
 use native.Mathlib.Omega.{arith}
-use lib.Pow.{pow-pos, pow-lt, pow-add}
+use lib.Pow.{pow-pos, pow-add}
 use lib.Bits.{bitAnd, and-high}
 use lib.Count.{leadingZeros, leading-top}
 use Rattle.definitions.specs.Polynomial.{degree}
@@ -14,10 +14,6 @@ pub leading-degree : (a : ℕ) → 0 < a → a < 2 ^ 32 → leadingZeros 32 a + 
 leading-degree a pos fits =
     let (j, place, least, most) = leading-top 32 a pos fits in
     omega (arith, degree-unique a j (record { least = least; most = omega arith }))
-
--- the code's 1 << k
-pub one-shl : (k : ℕ) → k < 32 → 1 * 2 ^ k % 2 ^ 32 ≡ 2 ^ k
-one-shl k h = mod-eq-of-lt (rw one-mul (pow-lt h)) ∙ one-mul (2 ^ k)
 
 -- ---- the digit at x^m, by a mask
 mask : (m a : ℕ) → bitAnd a (2 ^ m) ≡ a / 2 ^ m % 2 * 2 ^ m

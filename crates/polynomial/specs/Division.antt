@@ -7,11 +7,11 @@ use native.Mathlib.Omega.{arith}
 use lib.Pow.{pow-mono}
 use lib.Bits.{bitXor}
 use Rattle.definitions.specs.Polynomial.{_⊕_, degree, prod}
+use Rattle.number_laws.specs.Bounds.{one-shl}
 use Rattle.polynomial_laws.specs.Sum.{⊕-def, ⊕-cancel-both}
-use Rattle.polynomial_laws.specs.Degree.{HasDegree, degree-is, degree-least, degree-most, power-degree, top-cancels}
+use Rattle.polynomial_laws.specs.Degree.{HasDegree, degree-is, degree-least, degree-most, power-degree, leads-cancel}
 use Rattle.polynomial_laws.specs.Product.{⊕-prod, product-degree}
 use Rattle.polynomial_laws.specs.Power.{power-prod}
-use Rattle.polynomial.specs.Digits.{one-shl}
 
 -- A turn of the loop: r, of degree i, has b's degree m at least.
 pub record Turn (r b i m : ℕ) : Type 0 where
@@ -46,7 +46,7 @@ module _ {r b i m : ℕ} (t : Turn r b i m) where
   kept-whole = mod-eq-of-lt (omega (arith, aligned .most, pow-mono (t .below)))
 
   pub turn-less : bitXor r (b * 2 ^ (i - m) % 2 ^ 32) < r
-  turn-less = rw (kept-whole, ← ⊕-def) (omega (arith, top-cancels (t .dividend) aligned, t .dividend .least))
+  turn-less = rw (kept-whole, ← ⊕-def) (omega (arith, leads-cancel (t .dividend) aligned, t .dividend .least))
 
   pub turn-keeps : (q : ℕ) → prod (bitXor q (1 * 2 ^ (i - m) % 2 ^ 32)) b ⊕ bitXor r (b * 2 ^ (i - m) % 2 ^ 32) ≡ prod q b ⊕ r
   turn-keeps q =

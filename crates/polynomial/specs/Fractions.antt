@@ -10,13 +10,13 @@ use lib.Bits.{bitAnd, bitXor}
 use Rattle.definitions.specs.Polynomial.{_⊕_, degree, prod, rem}
 use Rattle.definitions.specs.Generator.{Pair, child, linearQuotients}
 use Rattle.polynomial_laws.specs.Sum.{⊕-def, ⊕-sums}
-use Rattle.polynomial_laws.specs.Degree.{HasDegree, positive, degree-unique, double-degree, top-cancels}
+use Rattle.polynomial_laws.specs.Degree.{HasDegree, positive, degree-unique, double-degree, leads-cancel}
 use Rattle.polynomial_laws.specs.Product.{one-prod, two-prod, prod-half}
 use Rattle.polynomial_laws.specs.Division.{rem-lt, division-unique}
 use Rattle.fraction_laws.specs.Quotients.{linearQuotients-zero, linearQuotients-next, linearQuotients-stop}
 use Rattle.fraction_laws.specs.Level.{child-def}
 use Rattle.polynomial.specs.Digits.{below-mask, above-mask}
-use Rattle.polynomial.specs.Modulus.{Modulus, modulus-degree, top-fits}
+use Rattle.polynomial.specs.Modulus.{Modulus, modulus-degree, lead-fits}
 
 x-prod : (b : ℕ) → prod 2 b ≡ b * 2
 x-prod b = two-prod b ∙ mul-comm 2 b
@@ -40,7 +40,7 @@ module _ (a p q : ℕ) where
 -- ---- Euclid's step from a of degree n + 1 and b of degree n
 module _ {a b n : ℕ} (ha : HasDegree a (suc n)) (hb : HasDegree b n) where
   rest-lt : a ⊕ b * 2 < 2 * 2 ^ n
-  rest-lt = rw (mul-comm b 2) (omega (arith, top-cancels ha (double-degree hb)))
+  rest-lt = rw (mul-comm b 2) (omega (arith, leads-cancel ha (double-degree hb)))
 
   remainder-is : (c r : ℕ) → prod c b ⊕ r ≡ a → r < 2 ^ n → r ≡ rem a b
   remainder-is c r e small = division-unique b (positive hb) a c r e (rw (degree-unique b n hb) small) .1
@@ -50,7 +50,7 @@ module _ {a b n : ℕ} (ha : HasDegree a (suc n)) (hb : HasDegree b n) where
 
   by-other : (bitAnd (a ⊕ b * 2) (2 ^ n) ≡ 0 → ⊥) → a ⊕ b * 2 ⊕ b ≡ rem a b
   by-other some =
-      remainder-is 3 (a ⊕ b * 2 ⊕ b) (rw x-and-one-prod (simp ⊕-sums)) (top-cancels (record { least = above-mask n _ some; most = rest-lt }) hb)
+      remainder-is 3 (a ⊕ b * 2 ⊕ b) (rw x-and-one-prod (simp ⊕-sums)) (leads-cancel (record { least = above-mask n _ some; most = rest-lt }) hb)
 
 -- ---- the loop that Euclid's test is: what holds of a, b and the leading term of a before each step
 pub record Run (p q a b lead : ℕ) : Type 0 where
@@ -61,9 +61,9 @@ pub record Run (p q a b lead : ℕ) : Type 0 where
   pub fits : lead ≤ 2 ^ 31
   pub same : linearQuotients a b ≡ linearQuotients p q
 
-pub run-start : {p q top : ℕ} → Modulus p top → p < 2 ^ 32 → q < top → Run p q p q top
+pub run-start : {p q lead : ℕ} → Modulus p lead → p < 2 ^ 32 → q < lead → Run p q p q lead
 run-start {p} h fits l =
-    record { n = degree p; degree-a = modulus-degree h; leading = h .leading; smaller = l; fits = top-fits h fits; same = refl }
+    record { n = degree p; degree-a = modulus-degree h; leading = h .leading; smaller = l; fits = lead-fits h fits; same = refl }
 
 pub run-end : {p q a b lead : ℕ} → Run p q a b lead → b ≡ 0 → eqb a 1 ≡ linearQuotients p q
 run-end {a = a} h z = sym (linearQuotients-zero a) ∙ ap (linearQuotients a) (sym z) ∙ h .same

@@ -15,24 +15,24 @@ pub fn child(a: u32, p: u32, q: u32) -> u32
     if a == 2 { by_x } else { by_x ^ p }
 }
 
-// Whether every partial quotient of q/p has degree one and p and q have no common factor. Euclid's step from (a, b), where `lead` is the leading
+// Whether every partial quotient of q/p has degree one and p and q have no common factor. Euclid's step from (a, b), where `lead_of_a` is the leading
 // term of a: the quotient has degree one where b has the digit below; then x b or (x + 1) b is taken from a. The first other quotient decides.
-pub fn linear_quotients(p: u32, q: u32, top: u32) -> bool
-    requires { ⌜ Modulus p top ⌝ }
-    requires { ⌜ q < top ⌝ }
+pub fn linear_quotients(p: u32, q: u32, lead: u32) -> bool
+    requires { ⌜ Modulus p lead ⌝ }
+    requires { ⌜ q < lead ⌝ }
     ensures { λ r. ⌜ r ≡ linearQuotients p q ⌝ }
 {
     let mut a = p;
     let mut b = q;
-    let mut lead = top;
+    let mut lead_of_a = lead;
     while b != 0 {
-        lead /= 2;
-        if b & lead == 0 {
+        lead_of_a /= 2;
+        if b & lead_of_a == 0 {
             return false;
         }
         let less = a ^ (b * 2);
         a = b;
-        if less & lead == 0 {
+        if less & lead_of_a == 0 {
             b = less;
         } else {
             b = less ^ a;

@@ -77,5 +77,5 @@ one-leads {a} m one = record {
 pub add-degree : {a b m : ℕ} → HasDegree a m → b < 2 ^ m → HasDegree (a ⊕ b) m
 add-degree {m = m} h below = one-leads m (rw (⊕-shr, leading-one h, div-eq-of-lt below, ⊕-zero))
 
-pub top-cancels : {a b m : ℕ} → HasDegree a m → HasDegree b m → a ⊕ b < 2 ^ m
-top-cancels {m = m} h k = lt-of-shr m _ (rw (⊕-shr, leading-one h, leading-one k, ⊕-self))
+pub leads-cancel : {a b m : ℕ} → HasDegree a m → HasDegree b m → a ⊕ b < 2 ^ m
+leads-cancel {m = m} h k = lt-of-shr m _ (rw (⊕-shr, leading-one h, leading-one k, ⊕-self))

@@ -9,7 +9,7 @@ use lib.Pow.{pow-pos, pow-mono}
 use Rattle.definitions.specs.Polynomial.{_⊕_, degree, prod, Division, clear, bringDown, divide, quot, rem}
 use Rattle.polynomial_laws.specs.Digits.{Digit, off, on, digit, half-ind, half-double, double-even, byDigits-zero, byDigits-half}
 use Rattle.polynomial_laws.specs.Sum.{⊕-lt, zero-⊕, ⊕-zero, ⊕-assoc, ⊕-cancel-both, ⊕-sums, ⊕-swap, ⊕-injective, ⊕-across, ⊕-equal, ⊕-double, digit-⊕, halves}
-use Rattle.polynomial_laws.specs.Degree.{HasDegree, degree-is, degree-unique, lt-of-shr, one-leads, add-degree, top-cancels}
+use Rattle.polynomial_laws.specs.Degree.{HasDegree, degree-is, degree-unique, lt-of-shr, one-leads, add-degree, leads-cancel}
 use Rattle.polynomial_laws.specs.Product.{zero-prod, one-prod, two-prod, double-prod, digit-prod, ⊕-prod, prod-zero, prod-comm, prod-assoc, product-degree, multiple-small}
 
 -- ---- one coefficient at a time
@@ -46,7 +46,7 @@ module _ (b : ℕ) (pos : 0 < b) where
   -- ---- existence
   cleared : {t : ℕ} → Digit t → (r : ℕ) → r / 2 ^ degree b ≡ t → r ⊕ t * b < 2 ^ degree b
   cleared off r e = rw (zero-mul, ⊕-zero) (lt-of-shr (degree b) r e)
-  cleared on r e = rw one-mul (top-cancels (one-leads (degree b) e) hb)
+  cleared on r e = rw one-mul (leads-cancel (one-leads (degree b) e) hb)
 
   leading : (r : ℕ) → r < 2 * 2 ^ degree b → Digit (r / 2 ^ degree b)
   leading r h = digit _ (div-lt-iff-lt-mul (pow-pos (degree b)) .1 h)
@@ -94,7 +94,7 @@ module _ (b : ℕ) (pos : 0 < b) where
   rem-rem a = rem-small (rem a b) (rem-lt a)
 
   pub rem-once : (a : ℕ) → HasDegree a (degree b) → rem a b ≡ a ⊕ b
-  rem-once a h = sym (division-unique a 1 (a ⊕ b) (rw one-prod (simp ⊕-sums)) (top-cancels h hb) .1)
+  rem-once a h = sym (division-unique a 1 (a ⊕ b) (rw one-prod (simp ⊕-sums)) (leads-cancel h hb) .1)
 
   module _ (a c : ℕ) where
     added : (quot a b ⊕ quot c b ≡ quot (a ⊕ c) b) × (rem a b ⊕ rem c b ≡ rem (a ⊕ c) b)

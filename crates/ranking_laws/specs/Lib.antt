@@ -1,5 +1,8 @@
--- Laws of the ranked list: all pairs, the rows met on a walk, the ranked list and the session that reads it page by page.
+-- Laws of the ranked list: all pairs; a list by its rule, and its reading page by page; the same for a selected list: the rows met on a walk,
+-- the ranked list and the session that reads it.
 pub mod Pairs
+pub mod Rule
+pub mod Reading
 pub mod Met
 pub mod Ranked
 pub mod Session

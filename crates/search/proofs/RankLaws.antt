@@ -1,33 +1,34 @@
 -- What the first t-values of a row decide: equally many of them stand at the front of both keys, so where they differ the keys compare as they
--- do. Where they put a row before the position it is not above it; where they put it behind the last of as many rows as fit, it falls off,
--- and is above the position as that row is. Assumes nothing.
-use mathlib.Core.Path.{_≡_, refl, sym, ap, ap₂, _∙_}
+-- do. Where they put a row before the position it is not above the cut; where they put it behind the last of as many rows as fit, it falls off,
+-- and is above the cut as that row is. Assumes nothing.
+use mathlib.Core.Path.{_≡_, sym, ap, ap₂, _∙_}
 use mathlib.Core.Bool.{Bool, true, false, _&&_, and-eq-true-iff}
-use mathlib.Core.List.{List, [], _∷_, _++_, map, append-assoc}
-use Prim.Native.Nat.{ℕ, zero, suc, _+_, _-_, _*_, _≤_, _<_}
-use native.Mathlib.Nat.{suc-mul}
-use native.Mathlib.Numerals.{add-one}
+use mathlib.Core.List.{List, [], _∷_, _++_, append-assoc}
+use Prim.Native.Nat.{ℕ, suc, _+_, _-_, _*_, _≤_, _<_}
+use native.Mathlib.Nat.{suc-mul, one-mul}
 use native.Mathlib.Omega.{arith}
 use lib.Dec.{eqb}
-use lib.ListN.{length, take, drop, getD, set, length-drop}
-use lib.Seq.{length-take-le, take-add, take-all, drop-append-le, take-suc-set}
+use lib.ListN.{length, take, drop, getD, length-drop}
+use lib.Seq.{length-take-le, take-add, take-all, drop-append-le}
 use borrow.Author.Tests.{eqb-true}
-use Rattle.definitions.specs.Number.{numbers}
-use Rattle.definitions.specs.Net.{tValue}
-use Rattle.definitions.specs.Pages.{before, above, after}
-use Rattle.definitions.specs.Ranking.{leastTop, rowKey}
+use Rattle.definitions.specs.declared.Selection.{Selection}
+use Rattle.definitions.specs.Pages.{before, above, Cut}
+use Rattle.definitions.specs.Ranking.{longestRow, ranksFrom, rowWidth, rowKey}
+use Rattle.number_laws.specs.Truth.{not-both}
 use Rattle.page_laws.specs.Key.{before-prefix, before-asym}
 use Rattle.page_laws.specs.Members.{getD-member}
-use Rattle.page_laws.specs.Ascending.{above-after, above-trans}
+use Rattle.page_laws.specs.Ascending.{above-start, above-after, above-trans}
 use Rattle.page_laws.specs.Rows.{rowsOf, row-at, length-rows, slot-rows-up}
-use Rattle.page_laws.specs.Search.{Search}
-use Rattle.ranking_laws.specs.Met.{row-def, row-length}
-use Rattle.search.specs.Frame.{topOf, placeIf, placeFrom, Searching}
+use Rattle.page_laws.specs.Slot.{slot}
+use Rattle.page_laws.specs.Search.{Search, Good, start-good}
+use Rattle.ranking_laws.specs.Met.{row-length}
 use Rattle.insertion.specs.Ranks.{ranksOf}
-use Rattle.search.specs.Standing.{begun, rowIn, Weighed}
+use Rattle.search.specs.Frame.{LawfulList, widthOf, cutIf, cutFrom, Searching}
+use Rattle.search.specs.Standing.{begun, Begun, rowIn, Weighed}
 use Rattle.search.specs.declared.frame.Frame.{Frame}
+use Rattle.search.specs.declared.rank.Standing.{Standing}
 use Rattle.search.specs.declared.rank.Standing.the-variants.{Low, High, Open}
-use Rattle.search.proofs.OfferLaws.{t-values-in}
+use Rattle.search.proofs.RowLaws.{ranks-begun, begun-length}
 
 -- ---- both tests of a comparison
 
@@ -41,62 +42,27 @@ both-yes a {b} e f = f ∙ sym (ap (λ (x : Bool). x && b) e)
 pub last-row : (n w : ℕ) → 1 ≤ n → (n - 1) * w + w ≡ n * w
 last-row n w e = let z : n ≡ suc (n - 1) = omega arith in sym (ap (λ (k : ℕ). k * w) z ∙ suc-mul (n - 1) w)
 
--- ---- t-values written one after the other
+-- As many rows as fit.
+pub rows-fit : {n cap w u size : ℕ} → n ≡ cap → w ≡ u → cap * u ≤ size → n * w ≤ size
+rows-fit full wide room = rw (full, wide) room
 
-numbers-more : (a n : ℕ) → numbers a (suc n) ≡ numbers a n ++ ((a + n) ∷ [])
-unfolding numbers
-numbers-more a zero = ap (λ (x : ℕ). x ∷ []) (omega arith)
-numbers-more a (suc n) =
-    ap (λ (l : List ℕ). a ∷ l) (numbers-more (suc a) n ∙ ap (λ (x : ℕ). numbers (suc a) n ++ (x ∷ [])) (omega arith))
+-- ---- what the first ranks decide, for any rows of a width
 
-map-more : (g : ℕ → ℕ) (l : List ℕ) (x : ℕ) → map g (l ++ (x ∷ [])) ≡ map g l ++ (g x ∷ [])
-map-more g [] x = refl
-map-more g (y ∷ l) x = ap (λ (t : List ℕ). g y ∷ t) (map-more g l x)
-
-module _ (m p q : ℕ) where
-  begun-more : (s : ℕ) → 3 ≤ s → begun m p q (s + 1 - 3) ≡ begun m p q (s - 3) ++ (tValue m p q s ∷ [])
-  unfolding begun
-  begun-more s h =
-      let k : ℕ = s - 3 in
-      let e : s + 1 - 3 ≡ suc k = omega arith in
-      let f : 3 + k ≡ s = omega arith in
-      ap (λ (l : List ℕ). p ∷ q ∷ 0 ∷ l)
-      (ap (λ (n : ℕ). map (tValue m p q) (numbers leastTop n)) e
-      ∙ ap (map (tValue m p q)) (numbers-more leastTop k)
-      ∙ map-more (tValue m p q) (numbers leastTop k) (leastTop + k)
-      ∙ ap (λ (x : ℕ). map (tValue m p q) (numbers leastTop k) ++ (tValue m p q x ∷ [])) f)
-
-  pub write-next : (w : List ℕ) (v s : ℕ) → 3 ≤ s → s < length w → take s w ≡ begun m p q (s - 3) → v ≡ tValue m p q s
-      → take (s + 1) (set w s v) ≡ begun m p q (s + 1 - 3)
-  write-next w v s h l e t =
-      ap (λ (n : ℕ). take n (set w s v)) (add-one s)
-      ∙ take-suc-set w s v l
-      ∙ ap₂ (λ (a : List ℕ) (x : ℕ). a ++ (x ∷ [])) e t
-      ∙ sym (begun-more s h)
-
--- ---- what the first t-values decide
-
-take-numbers : (g : ℕ → ℕ) (k n a : ℕ) → k ≤ n → take k (map g (numbers a n)) ≡ map g (numbers a k)
-unfolding numbers
-take-numbers g zero n a h = refl
-take-numbers g (suc k) zero a h = absurd (omega arith)
-take-numbers g (suc k) (suc n) a h = ap (λ (l : List ℕ). g a ∷ l) (take-numbers g k n (suc a) (omega arith))
-
--- A row's key begins with its first t-values.
-module _ (s w : ℕ) (h : 3 ≤ s) (l : s ≤ w) where
-  length-ranks : (r : List ℕ) → w ≤ length r → length (ranksOf s r) ≡ s - 3
+module _ (s w : ℕ) (from : ranksFrom ≤ s) (to : s ≤ w) where
+  length-ranks : (r : List ℕ) → w ≤ length r → length (ranksOf s r) ≡ s - ranksFrom
   unfolding ranksOf
-  length-ranks r e = length-drop 3 (take s r) ∙ ap (λ (n : ℕ). n - 3) (length-take-le s r (omega arith))
+  length-ranks r e = length-drop ranksFrom (take s r) ∙ ap (λ (n : ℕ). n - ranksFrom) (length-take-le s r (omega arith))
 
+  -- A row's key begins with its first ranks.
   key-begins : (r : List ℕ) → w ≤ length r → rowKey (take w r) ≡ ranksOf s r ++ (take (w - s) (drop s r) ++ take 2 (take w r))
   unfolding rowKey ranksOf
   key-begins r e =
       let d : w ≡ s + (w - s) = omega arith in
       ap (λ (t : List ℕ). t ++ take 2 (take w r))
-      (ap (λ (n : ℕ). drop 3 (take n r)) d
-      ∙ ap (drop 3) (take-add s (w - s) r)
-      ∙ drop-append-le 3 (take s r) (take (w - s) (drop s r)) (omega (arith, length-take-le s r (omega arith))))
-      ∙ append-assoc (drop 3 (take s r)) (take (w - s) (drop s r)) (take 2 (take w r))
+      (ap (λ (n : ℕ). drop ranksFrom (take n r)) d
+      ∙ ap (drop ranksFrom) (take-add s (w - s) r)
+      ∙ drop-append-le ranksFrom (take s r) (take (w - s) (drop s r)) (omega (arith, length-take-le s r (omega arith))))
+      ∙ append-assoc (drop ranksFrom (take s r)) (take (w - s) (drop s r)) (take 2 (take w r))
 
   ranks-decide : (a b : List ℕ) → w ≤ length a → w ≤ length b → before (ranksOf s a) (ranksOf s b) ≡ true
       → before (rowKey (take w a)) (rowKey (take w b)) ≡ true
@@ -105,73 +71,109 @@ module _ (s w : ℕ) (h : 3 ≤ s) (l : s ≤ w) where
       ∙ before-prefix (ranksOf s a) (ranksOf s b) (take (w - s) (drop s a) ++ take 2 (take w a)) (take (w - s) (drop s b) ++ take 2 (take w b))
       (length-ranks a x ∙ sym (length-ranks b y)) t
 
-module _ {f : Frame} {last : List ℕ} {x : Search} (p q : ℕ) (w : List ℕ) (r : Searching f last 1 x) (s : ℕ) (h : 3 ≤ s) (l : s ≤ f .width)
-    (written : take s w ≡ begun (f .degree) p q (s - 3)) where
-  whole-length : length (rowIn f p q) ≡ f .width
-  whole-length =
-      let e : suc (topOf f) ≡ f .width = omega (arith, r .framed .wide) in
-      row-length (f .degree) (topOf f) p q (omega (arith, r .framed .wide)) ∙ e
+  -- A whole row against numbers that begin with one, and the other way round.
+  module _ (whole : List ℕ) (long : length whole ≡ w) (other : List ℕ) (lent : w ≤ length other) where
+    taken : take w whole ≡ whole
+    taken = take-all w whole (omega arith)
 
-  -- The t-values written so far are the first of the whole row.
+    pub before-other : before (ranksOf s whole) (ranksOf s other) ≡ true → before (rowKey whole) (rowKey (take w other)) ≡ true
+    before-other t = rw taken at (ranks-decide whole other (omega arith) lent t)
+
+    pub behind-other : before (ranksOf s other) (ranksOf s whole) ≡ true → before (rowKey (take w other)) (rowKey whole) ≡ true
+    behind-other t = rw taken at (ranks-decide other whole lent (omega arith) t)
+
+-- ---- a row that stands behind the last of as many rows as fit
+
+module _ {w cap : ℕ} {at : Cut} {x : Search} (g : Good rowKey w cap at x) (full : x .n ≡ cap) (some : 1 ≤ cap) where
+  -- The last row kept.
+  abbrev lastKept : List ℕ
+  lastKept = drop ((x .n - 1) * w) (x .out)
+
+  fits : x .n * w ≤ length (x .out)
+  fits = rw full (g .room)
+
+  pub last-lent : w ≤ length lastKept
+  last-lent = omega (arith, full, fits, last-row (x .n) w (omega arith), length-drop ((x .n - 1) * w) (x .out))
+
+  is-last : getD (rowsOf w (x .n) (x .out)) (x .n - 1) [] ≡ take w lastKept
+  is-last = row-at w (x .n) (x .n - 1) (x .out) (omega (arith, full))
+
+  last-above : above at (rowKey (take w lastKept)) ≡ true
+  last-above =
+      let rows = rowsOf w (x .n) (x .out) in
+      let inside : x .n - 1 < length rows = omega (arith, full, length-rows w (x .n) (x .out)) in
+      rw is-last at (g .high (getD rows (x .n - 1) []) (getD-member [] rows (x .n - 1) inside))
+
+  module _ (r : List ℕ) (behind : before (rowKey (take w lastKept)) (rowKey r) ≡ true) where
+    pub behind-above : above at (rowKey r) ≡ true
+    behind-above = above-trans at (rowKey (take w lastKept)) (rowKey r) last-above behind
+
+    pub behind-slot : cap ≤ slot rowKey r (rowsOf w (x .n) (x .out))
+    behind-slot =
+        let not-before = before-asym (rowKey (take w lastKept)) (rowKey r) behind in
+        let up = slot-rows-up rowKey w r (x .out) (x .n) (x .n - 1) (omega (arith, full)) (g .order) not-before in
+        omega (arith, full)
+
+-- ---- a pair's row, of which the first s numbers are written
+
+module _ {f : Frame} {last : List ℕ} {x : Search} (r : Searching f last 1 x) (p q : ℕ) (w : List ℕ) (s : ℕ) (from : ranksFrom ≤ s) (to : s ≤ widthOf f)
+    (written : take s w ≡ take s (begun (f .list) p q)) where
+  long : length (rowIn f p q) ≡ widthOf f
+  long = row-length (f .list) p q (r .framed .lawful .top .low)
+
+  -- The ranks written so far are the first of the whole row.
   ranks-whole : ranksOf s w ≡ ranksOf s (rowIn f p q)
-  unfolding ranksOf begun
-  ranks-whole =
-      let k : ℕ = s - 3 in
-      let e : s ≡ suc (suc (suc k)) = omega arith in
-      ap (drop 3) written
-      ∙ sym (take-numbers (tValue (f .degree) p q) k (f .width - 3) leastTop (omega arith))
-      ∙ ap (take k) (sym (t-values-in f p q (r .framed .wide)))
-      ∙ sym (ap₂ (λ (n : ℕ) (t : List ℕ). drop 3 (take n t)) e (row-def (f .degree) (topOf f) p q))
+  unfolding ranksOf
+  ranks-whole = ap (drop ranksFrom) written ∙ ranks-begun (f .list) p q s from
 
-  whole-taken : take (f .width) (rowIn f p q) ≡ rowIn f p q
-  whole-taken = take-all (f .width) (rowIn f p q) (omega (arith, whole-length))
-
-  pub low-known : (f .after && before (ranksOf s w) (ranksOf s last)) ≡ true → Weighed f last x p q w Low
+  pub low-known : {low : Bool} → low ≡ (f .after && before (ranksOf s w) (ranksOf s last)) → low ≡ true → Weighed f last x p q w Low
   unfolding Weighed
-  low-known t =
-      let b = and-eq-true-iff (f .after) (before (ranksOf s w) (ranksOf s last)) .0 t in
-      let before-last : before (rowKey (rowIn f p q)) (rowKey (take (f .width) last)) ≡ true =
-      ap (λ (u : List ℕ). before (rowKey u) (rowKey (take (f .width) last))) (sym whole-taken)
-      ∙ ranks-decide s (f .width) h l (rowIn f p q) last (omega (arith, whole-length)) (r .framed .lent)
-      (ap (λ (u : List ℕ). before u (ranksOf s last)) (sym ranks-whole) ∙ b .1) in
-      ap (λ (u : Bool). above (placeIf u (rowKey (take (f .width) last))) (rowKey (rowIn f p q))) (b .0)
-      ∙ above-after (rowKey (take (f .width) last)) (rowKey (rowIn f p q))
-      ∙ before-asym (rowKey (rowIn f p q)) (rowKey (take (f .width) last)) before-last
+  low-known e t =
+      let b = and-eq-true-iff (f .after) (before (ranksOf s w) (ranksOf s last)) .0 (sym e ∙ t) in
+      let key = rowKey (take (widthOf f) last) in
+      let earlier = before-other s (widthOf f) from to (rowIn f p q) long last (r .framed .lent) (rw ranks-whole at (b .1)) in
+      ap (λ (u : Bool). above (cutIf u key) (rowKey (rowIn f p q))) (b .0)
+      ∙ above-after key (rowKey (rowIn f p q))
+      ∙ before-asym (rowKey (rowIn f p q)) key earlier
 
-  pub high-known : (eqb (x .n) (f .capacity) && before (ranksOf s (drop ((x .n - 1) * f .width) (x .out))) (ranksOf s w)) ≡ true → Weighed f last x p q w High
+  pub high-known : {high : Bool} → high ≡ (eqb (x .n) (f .capacity) && before (ranksOf s (drop ((x .n - 1) * widthOf f) (x .out))) (ranksOf s w))
+      → high ≡ true → Weighed f last x p q w High
   unfolding Weighed
-  high-known t =
-      let n : ℕ = x .n in
-      let behind : List ℕ = drop ((n - 1) * f .width) (x .out) in
-      let b = and-eq-true-iff (eqb n (f .capacity)) (before (ranksOf s behind) (ranksOf s w)) .0 t in
-      let full : n ≡ f .capacity = eqb-true n (f .capacity) (b .0) in
-      let some : 1 ≤ n = omega (arith, r .framed .some, full) in
-      let fits : n * f .width ≤ length (x .out) = ap-le full in
-      let rest : (n - 1) * f .width + f .width ≡ n * f .width = last-row n (f .width) some in
-      let long : f .width ≤ length behind = omega (arith, length-drop ((n - 1) * f .width) (x .out)) in
-      let before-row : before (rowKey (take (f .width) behind)) (rowKey (rowIn f p q)) ≡ true =
-      ap (λ (u : List ℕ). before (rowKey (take (f .width) behind)) (rowKey u)) (sym whole-taken)
-      ∙ ranks-decide s (f .width) h l behind (rowIn f p q) long (omega (arith, whole-length))
-      (ap (before (ranksOf s behind)) (sym ranks-whole) ∙ b .1) in
-      let rows : List (List ℕ) = rowsOf (f .width) n (x .out) in
-      let is-last : getD rows (n - 1) [] ≡ take (f .width) behind = row-at (f .width) n (n - 1) (x .out) (omega arith) in
-      let inside : n - 1 < length rows = omega (arith, length-rows (f .width) n (x .out)) in (
-        above-trans (placeFrom f last) (rowKey (take (f .width) behind)) (rowKey (rowIn f p q))
-            (ap (λ (u : List ℕ). above (placeFrom f last) (rowKey u)) (sym is-last) ∙ r .good .high (getD rows (n - 1) []) (getD-member [] rows (n - 1) inside)) before-row,
-        full,
-        omega (
-          arith,
-          full,
-          slot-rows-up rowKey (f .width) (rowIn f p q) (x .out) n (n - 1) (omega arith) (r .good .order)
-              (before-asym (rowKey (take (f .width) behind)) (rowKey (rowIn f p q)) before-row),
-        ),
-      )
-    where
-      ap-le : x .n ≡ f .capacity → x .n * f .width ≤ length (x .out)
-      ap-le e = rw e (r .good .room)
+  high-known e t =
+      let behind = drop ((x .n - 1) * widthOf f) (x .out) in
+      let b = and-eq-true-iff (eqb (x .n) (f .capacity)) (before (ranksOf s behind) (ranksOf s w)) .0 (sym e ∙ t) in
+      let full = eqb-true (x .n) (f .capacity) (b .0) in
+      let some = r .framed .some in
+      let lent = last-lent (r .good) full some in
+      let later = behind-other s (widthOf f) from to (rowIn f p q) long behind lent (rw ranks-whole at (b .1)) in
+      (behind-above (r .good) full some (rowIn f p q) later, full, behind-slot (r .good) full some (rowIn f p q) later)
 
-  pub open-known : length w ≡ 9 → f .width ≤ s → Weighed f last x p q w Open
+  pub open-known : length w ≡ longestRow → widthOf f ≤ s → Weighed f last x p q w Open
   unfolding Weighed
-  open-known e g =
-      let z : s ≡ f .width = omega arith in
-      record { sized = e; is = ap (λ (k : ℕ). take k w) (sym z) ∙ written ∙ ap (λ (k : ℕ). begun (f .degree) p q (k - 3)) z }
+  open-known e all =
+      let z : s ≡ widthOf f = omega arith in
+      let whole = take-all (widthOf f) (begun (f .list) p q) (omega (arith, begun-length (f .list) p q (r .framed .lawful .top .low))) in
+      record { sized = e; is = (rw z at written) ∙ whole }
+
+-- ---- a search with no position and with room left
+
+abbrev free : Selection → Frame
+free l = record { list = l; capacity = 1; after = false }
+
+abbrev nothing : List ℕ → Search
+nothing spare = record { out = spare; n = 0; count = 0 }
+
+module _ (l : Selection) (spare : List ℕ) where
+  pub free-searching : LawfulList l → length spare ≡ longestRow → Searching (free l) spare 1 (nothing spare)
+  free-searching h e = record {
+    framed = record { lawful = h; some = omega arith; lent = omega (arith, h .top .high) };
+    good = start-good rowKey (rowWidth l) 1 (cutFrom (free l) spare) spare (rw one-mul (omega (arith, h .top .high)));
+    few = omega arith;
+  }
+
+  -- Neither of the other two can be.
+  pub free-open : (p q : ℕ) (w : List ℕ) (x : Standing) → Weighed (free l) spare (nothing spare) p q w x → Begun l p q w
+  unfolding Weighed
+  free-open p q w Low t = not-both (above-start (rowKey (rowIn (free l) p q))) t
+  free-open p q w High t = absurd (omega (arith, t .1))
+  free-open p q w Open b = b

@@ -1,5 +1,4 @@
 -- What the contracts of this crate cite beside the definitions.
 pub mod Frame
 pub mod Standing
-pub mod Weighing
 pub mod Walk

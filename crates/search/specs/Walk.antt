@@ -10,6 +10,6 @@ use Rattle.search.specs.declared.frame.Frame.{Frame}
 
 pub record Ready (left p q : ℕ) (f : Frame) (last : List ℕ) (s : Search) : Type 0 where
   pub searching : Searching f last (2 ^ left) s
-  pub levels : left ≤ f .degree
-  pub proper : Proper (f .degree - left) (record { p = p; q = q })
-  pub inside : (t : Pair) → List·Memᴰ t (pairsBelow left (record { p = p; q = q })) → List·Memᴰ t (tree (f .degree))
+  pub levels : left ≤ f .list .degree
+  pub proper : Proper (f .list .degree - left) (record { p = p; q = q })
+  pub inside : (t : Pair) → List·Memᴰ t (pairsBelow left (record { p = p; q = q })) → List·Memᴰ t (tree (f .list .degree))

@@ -1,15 +1,24 @@
 // A search for the rows of a page: what it is made with, and what it has counted.
+ghost use mathlib.Core.Path.{_≡_};
+ghost use Rattle.definitions.specs.Ranking.{rowWidth};
+use definitions::Selection;
 
-// The degree, the numbers of a row, the rows that fit, and whether the page begins after a row or at the start.
+// The list that is searched, the rows that fit, and whether the page begins after a row or at the start.
 pub struct Frame {
-    pub degree: u32,
-    pub width: usize,
+    pub list: Selection,
     pub capacity: usize,
     pub after: bool,
 }
 
-// How many rows are kept at the front of the slice, and how many were met above the position.
+// How many rows are kept at the front of the slice, and how many were met above the cut.
 pub struct Tally {
     pub kept: usize,
     pub count: usize,
+}
+
+// How many numbers a row of the list has.
+pub fn width_of(list: Selection) -> usize
+    ensures { λ w. ⌜ w ≡ rowWidth list ⌝ }
+{
+    list.top as usize + 1
 }

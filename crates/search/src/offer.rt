@@ -11,44 +11,47 @@ ghost use Rattle.fraction_laws.specs.WellFormed.{WellFormed};
 ghost use Rattle.page_laws.specs.Rows.{Kept, inserted};
 ghost use Rattle.page_laws.specs.Search.{Search};
 ghost use Rattle.ranking_laws.specs.Met.{met};
-ghost use Rattle.search.specs.Frame.{topOf, placeFrom, stateOf, offers, offer, Framed, Keeping, Searching};
+ghost use Rattle.search.specs.Frame.{widthOf, cutFrom, stateOf, offers, offer, Framed, Keeping, Searching};
 ghost use Rattle.search.specs.Standing.{rowIn, Begun};
 use crate::frame::Frame;
 use crate::frame::Tally;
+use crate::frame::width_of;
 use crate::rank;
 use crate::rank::Standing;
 use generator::primitive::has_full_order;
 use generator::primitive::is_primitive;
 use generator::step::find_step;
 use insertion::rows;
+use limits::LONGEST_ROW;
 
-// Whether a row stands above the position.
+// Whether a row stands above the cut.
 fn is_above(row: &[u32], f: Frame, last: &[u32]) -> bool
-    requires { ⌜ Framed f (now last) × (f .width ≤ length (now row)) ⌝ }
-    ensures { λ r. ⌜ r ≡ above (placeFrom f (now (last .entry))) (rowKey (take (f .width) (now (row .entry)))) ⌝ }
+    requires { ⌜ Framed f (now last) × (widthOf f ≤ length (now row)) ⌝ }
+    ensures { λ r. ⌜ r ≡ above (cutFrom f (now (last .entry))) (rowKey (take (widthOf f) (now (row .entry)))) ⌝ }
 {
     if !f.after {
         return true;
     }
-    let w = f.width;
-    rows::stands_before(last, 0, row, 0, w)
+    let width = width_of(f.list);
+    rows::stands_before(last, 0, row, 0, width)
 }
 
 // Puts the row of a pair in its slot, where it fits, and answers how many rows are kept. The step is looked for only then.
 fn keep_row(p: u32, q: u32, out: &mut [u32], n: usize, f: Frame, row: &mut [u32]) -> usize
     requires { ⌜ Keeping f n (now out) ⌝ }
-    requires { ⌜ WellFormed (f .degree) p q ⌝ }
-    requires { ⌜ primitive (f .degree) p ≡ true ⌝ }
-    requires { ⌜ Begun f p q (now row) ⌝ }
-    ensures { λ r. ⌜ _≡_ {A = Kept} (record { out = now (out .exit); n = r }) (inserted rowKey (f .width) (f .capacity) (rowIn f p q) (record { out = now (out .entry); n = n })) ⌝ }
+    requires { ⌜ WellFormed (f .list .degree) p q ⌝ }
+    requires { ⌜ primitive (f .list .degree) p ≡ true ⌝ }
+    requires { ⌜ Begun (f .list) p q (now row) ⌝ }
+    ensures { λ r. ⌜ _≡_ {A = Kept} (record { out = now (out .exit); n = r })
+        (inserted rowKey (widthOf f) (f .capacity) (rowIn f p q) (record { out = now (out .entry); n = n })) ⌝ }
 {
-    let m = f.degree;
-    let w = f.width;
-    let cap = f.capacity;
-    let at = rows::find_slot(out, n, w, row);
-    if at < cap {
-        row[2] = find_step(m, p, q);
-        return rows::insert_row(out, n, w, cap, at, row);
+    let list = f.list;
+    let width = width_of(list);
+    let capacity = f.capacity;
+    let at = rows::find_slot(out, n, width, row);
+    if at < capacity {
+        row[2] = find_step(list.degree, p, q);
+        return rows::insert_row(out, n, width, capacity, at, row);
     }
     n
 }
@@ -64,10 +67,11 @@ fn offer_known(
     row: &mut [u32],
 ) -> Tally
     requires { ⌜ Searching f (now last) 1 (stateOf (now out) t) ⌝ }
-    requires { ⌜ WellFormed (f .degree) p q ⌝ }
-    requires { ⌜ primitive (f .degree) p ≡ true ⌝ }
-    requires { ⌜ Begun f p q (now row) ⌝ }
-    ensures { λ r. ⌜ _≡_ {A = Search} (stateOf (now (out .exit)) r) (offer f (now (last .entry)) (rowIn f p q) (stateOf (now (out .entry)) t)) ⌝ }
+    requires { ⌜ WellFormed (f .list .degree) p q ⌝ }
+    requires { ⌜ primitive (f .list .degree) p ≡ true ⌝ }
+    requires { ⌜ Begun (f .list) p q (now row) ⌝ }
+    ensures { λ r. ⌜ _≡_ {A = Search} (stateOf (now (out .exit)) r)
+        (offer f (now (last .entry)) (rowIn f p q) (stateOf (now (out .entry)) t)) ⌝ }
 {
     if !is_above(row, f, last) {
         return t;
@@ -83,11 +87,12 @@ fn offer_known(
 // Offers the row of an accepted pair.
 fn offer_row(p: u32, q: u32, out: &mut [u32], t: Tally, f: Frame, last: &[u32]) -> Tally
     requires { ⌜ Searching f (now last) 1 (stateOf (now out) t) ⌝ }
-    requires { ⌜ WellFormed (f .degree) p q ⌝ }
-    requires { ⌜ accepted (f .degree) p q ≡ true ⌝ }
-    ensures { λ r. ⌜ _≡_ {A = Search} (stateOf (now (out .exit)) r) (offer f (now (last .entry)) (rowIn f p q) (stateOf (now (out .entry)) t)) ⌝ }
+    requires { ⌜ WellFormed (f .list .degree) p q ⌝ }
+    requires { ⌜ accepted (f .list .degree) p q ≡ true ⌝ }
+    ensures { λ r. ⌜ _≡_ {A = Search} (stateOf (now (out .exit)) r)
+        (offer f (now (last .entry)) (rowIn f p q) (stateOf (now (out .entry)) t)) ⌝ }
 {
-    let mut numbers: [u32; 9] = [0; 9];
+    let mut numbers: [u32; LONGEST_ROW] = [0; LONGEST_ROW];
     let standing = rank::weigh(p, q, out, t, f, last, &mut numbers);
     match standing {
         Standing::Low => t,
@@ -102,11 +107,13 @@ fn offer_row(p: u32, q: u32, out: &mut [u32], t: Tally, f: Frame, last: &[u32]) 
 // Offers the row of a pair of the tree, where the pair is accepted.
 pub fn offer_pair(p: u32, q: u32, out: &mut [u32], t: Tally, f: Frame, last: &[u32]) -> Tally
     requires { ⌜ Searching f (now last) 1 (stateOf (now out) t) ⌝ }
-    requires { ⌜ WellFormed (f .degree) p q ⌝ }
+    requires { ⌜ WellFormed (f .list .degree) p q ⌝ }
     requires { ⌜ linearQuotients p q ≡ true ⌝ }
-    ensures { λ r. ⌜ _≡_ {A = Search} (stateOf (now (out .exit)) r) (offers f (now (last .entry)) (met (f .degree) (topOf f) (record { p = p; q = q } ∷ [])) (stateOf (now (out .entry)) t)) ⌝ }
+    ensures { λ r. ⌜ _≡_ {A = Search} (stateOf (now (out .exit)) r)
+        (offers f (now (last .entry)) (met (f .list) (record { p = p; q = q } ∷ [])) (stateOf (now (out .entry)) t)) ⌝ }
 {
-    let m = f.degree;
+    let list = f.list;
+    let m = list.degree;
     if !is_primitive(m, p) {
         return t;
     }

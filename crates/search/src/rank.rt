@@ -1,21 +1,28 @@
 // Where a pair's key stands among the rows kept, by its t-values one after the other, as far as they are needed.
 ghost use mathlib.Core.Path.{_≡_};
 ghost use mathlib.Core.Bool.{true, _&&_};
-ghost use Prim.Native.Nat.{_+_, _-_, _*_, _<_, _≤_};
+ghost use Prim.Native.Nat.{_-_, _*_, _≤_};
 ghost use lib.Dec.{eqb};
 ghost use lib.ListN.{length, drop};
-ghost use Rattle.definitions.specs.Pages.{before};
 ghost use Rattle.definitions.specs.Generator.{accepted};
+ghost use Rattle.definitions.specs.Pages.{before};
+ghost use Rattle.definitions.specs.Ranking.{ranksFrom, longestRow};
 ghost use Rattle.fraction_laws.specs.WellFormed.{WellFormed};
-ghost use Rattle.search.specs.Frame.{stateOf, Searching};
 ghost use Rattle.insertion.specs.Ranks.{ranksOf};
-ghost use Rattle.search.specs.Standing.{Weighed};
+ghost use Rattle.search.specs.Frame.{LawfulList, widthOf, stateOf, Searching};
+ghost use Rattle.search.specs.Standing.{Begun, Weighed};
 use crate::frame::Frame;
 use crate::frame::Tally;
+use crate::frame::width_of;
+use definitions::Selection;
+use insertion::rows::RANKS_FROM;
 use insertion::rows::ranks_before;
+use limits::LONGEST_ROW;
+use net::bound::INVERTIBLE;
 use net::values::next_t;
+use net::values::powers;
 
-// Where a key stands: not above the position; above it and behind every row kept, with no room left; or neither is known.
+// Where a key stands: not above the cut; above it and behind every row kept, with no room left; or neither is known.
 pub enum Standing {
     Low,
     High,
@@ -24,7 +31,7 @@ pub enum Standing {
 
 // Whether the first t-values put a row before the position.
 fn is_low(row: &[u32], s: usize, f: Frame, last: &[u32]) -> bool
-    requires { ⌜ (3 ≤ s) × (s ≤ length (now row)) × (s ≤ length (now last)) ⌝ }
+    requires { ⌜ (ranksFrom ≤ s) × (s ≤ length (now row)) × (s ≤ length (now last)) ⌝ }
     ensures { λ r. ⌜ r ≡ (f .after && before (ranksOf s (now (row .entry))) (ranksOf s (now (last .entry)))) ⌝ }
 {
     if !f.after {
@@ -35,13 +42,15 @@ fn is_low(row: &[u32], s: usize, f: Frame, last: &[u32]) -> bool
 
 // Whether there is no room left, and the first t-values put a row behind the last one kept.
 fn is_high(row: &[u32], s: usize, out: &[u32], t: Tally, f: Frame) -> bool
-    requires { ⌜ (3 ≤ s) × (s ≤ length (now row)) × (s ≤ f .width) × (1 ≤ f .capacity) × (f .capacity * f .width ≤ length (now out)) ⌝ }
-    ensures { λ r. ⌜ r ≡ (eqb (t .kept) (f .capacity) && before (ranksOf s (drop ((t .kept - 1) * f .width) (now (out .entry)))) (ranksOf s (now (row .entry)))) ⌝ }
+    requires { ⌜ (ranksFrom ≤ s) × (s ≤ length (now row)) × (s ≤ widthOf f) × (1 ≤ f .capacity) × (f .capacity * widthOf f ≤ length (now out)) ⌝ }
+    ensures { λ r. ⌜ r ≡ (eqb (t .kept) (f .capacity)
+        && before (ranksOf s (drop ((t .kept - 1) * widthOf f) (now (out .entry)))) (ranksOf s (now (row .entry)))) ⌝ }
 {
     if t.kept != f.capacity {
         return false;
     }
-    ranks_before(out, (t.kept - 1) * f.width, row, 0, s)
+    let width = width_of(f.list);
+    ranks_before(out, (t.kept - 1) * width, row, 0, s)
 }
 
 // Writes p, q and the t-values of a pair to `row`, with 0 for the step, and says where its key stands. It stops as soon as that is known.
@@ -55,20 +64,22 @@ pub fn weigh(
     row: &mut [u32],
 ) -> Standing
     requires { ⌜ Searching f (now last) 1 (stateOf (now out) t) ⌝ }
-    requires { ⌜ WellFormed (f .degree) p q ⌝ }
-    requires { ⌜ accepted (f .degree) p q ≡ true ⌝ }
-    requires { ⌜ length (now row) ≡ 9 ⌝ }
+    requires { ⌜ WellFormed (f .list .degree) p q ⌝ }
+    requires { ⌜ accepted (f .list .degree) p q ≡ true ⌝ }
+    requires { ⌜ length (now row) ≡ longestRow ⌝ }
     ensures { λ r. ⌜ Weighed f (now (last .entry)) (stateOf (now (out .entry)) t) p q (now (row .exit)) r ⌝ }
 {
-    let m = f.degree;
-    let w = f.width;
+    let list = f.list;
+    let m = list.degree;
+    let width = width_of(list);
     row[0] = p;
     row[1] = q;
     row[2] = 0;
-    let mut value = next_t(m, p, q, 2, 0, 2);
-    let mut s: usize = 3;
-    while s < w {
-        value = next_t(m, p, q, s, value, 2);
+    let powers = powers(m, p, q);
+    let mut value = next_t(m, p, q, 2, 0, &powers, INVERTIBLE);
+    let mut s: usize = RANKS_FROM;
+    while s < width {
+        value = next_t(m, p, q, s, value, &powers, INVERTIBLE);
         row[s] = value;
         s += 1;
         if is_low(row, s, f, last) {
@@ -79,4 +90,23 @@ pub fn weigh(
         }
     }
     Standing::Open
+}
+
+// Writes the key of an accepted pair to `row`: p, q, 0 for the step, and all its t-values. A search with no position and with room left never stops
+// early.
+pub fn write_key(list: Selection, p: u32, q: u32, row: &mut [u32])
+    requires { ⌜ LawfulList list ⌝ }
+    requires { ⌜ WellFormed (list .degree) p q ⌝ }
+    requires { ⌜ accepted (list .degree) p q ≡ true ⌝ }
+    requires { ⌜ length (now row) ≡ longestRow ⌝ }
+    ensures { λ _. ⌜ Begun list p q (now (row .exit)) ⌝ }
+{
+    let spare: [u32; LONGEST_ROW] = [0; LONGEST_ROW];
+    let free = Frame {
+        list: list,
+        capacity: 1,
+        after: false,
+    };
+    let none = Tally { kept: 0, count: 0 };
+    weigh(p, q, &spare, none, free, &spare, row);
 }

@@ -1,25 +1,50 @@
 -- Numbers written over a list from a place on, `over` of the definitions: nothing written, one number written, one behind another, the last first.
--- Two parts written one behind the other are their concatenation written once: `take` and `drop` meet at the seam.
+-- Two parts written one behind the other, in either order, are their concatenation written once: `take` and `drop` meet at the seam.
 -- Assumes nothing.
 use mathlib.Core.Path.{_≡_, refl, sym, ap, _∙_}
 use mathlib.Core.List.{List, [], _∷_, _++_, append-assoc, append-nil}
-use Prim.Native.Nat.{ℕ, zero, suc, _+_, _≤_, _<_}
+use Prim.Native.Nat.{ℕ, zero, suc, _+_, _-_, _≤_, _<_}
 use native.Mathlib.Nat.{add-zero, zero-add, add-assoc}
 use native.Mathlib.Numerals.{add-one}
 use native.Mathlib.Omega.{arith}
-use lib.ListN.{length, take, drop, set, getD, length-append, length-take, length-drop, take-append-drop, drop-of-length-le}
-use lib.Seq.{drop-at, take-at, drop-drop, drop-cons, append-snoc}
-use lib.Seq.{take-set-le, take-set-lt, drop-set-lt, set-split, set-append-left, getD-set-same, lt-length-set}
+use lib.Dec.{leb}
+use lib.ListN.{length, take, drop, set, getD, length-append, length-take, length-drop, take-append-drop, drop-of-length-le, List·getD-append}
+use lib.Seq.{drop-at, take-at, take-all, take-take, take-append-le, getD-take, length-take-le}
+use lib.Seq.{drop-drop, drop-cons, take-set-le, drop-set-lt, set-split, getD-set-same, append-snoc, lt-length-set}
+use borrow.Author.Tests.{leb-true, leb-false}
 use Rattle.definitions.specs.Number.{over}
+use Rattle.number_laws.specs.Truth.{by-test}
 
 pub over-def : (at : ℕ) (v s : List ℕ) → over at v s ≡ take at s ++ v ++ drop (at + length v) s
 unfolding over
 over-def at v s = refl
 
+over-parts : (at : ℕ) (v s : List ℕ) → over at v s ≡ take at s ++ (v ++ drop (at + length v) s)
+unfolding over
+over-parts at v s = append-assoc (take at s) v (drop (at + length v) s)
+
 -- Over the front.
 pub over-front : (v s : List ℕ) → over 0 v s ≡ v ++ drop (length v) s
 unfolding over
 over-front v s = rw zero-add
+
+-- The first part stands in front of what is written behind it.
+pub over-front-append : (a b s : List ℕ) → over 0 (a ++ b) s ≡ a ++ over 0 b (drop (length a) s)
+over-front-append a b s = rw (over-front (a ++ b) s, over-front b (drop (length a) s), length-append, drop-drop) (append-assoc a b _)
+
+-- What stands at the front already.
+pub over-same : (k : ℕ) (s : List ℕ) → over 0 (take k s) s ≡ s
+over-same k s = by-test (leb k (length s))
+    (λ t. let l = length-take-le k s (leb-true k (length s) t) in rw (over-front, l) (take-append-drop k s))
+    (λ f. let e = take-all k s (omega (arith, leb-false k (length s) f)) in rw (e, over-front, drop-of-length-le s {i = length s} (omega arith)) (append-nil s))
+
+-- As many numbers or more, over those that were written.
+pub over-again : (a b s : List ℕ) → length a ≤ length b → over 0 b (over 0 a s) ≡ over 0 b s
+over-again a b s h =
+    let k : ℕ = length b - length a in
+    let e : length b ≡ length a + k = omega arith in
+    let rest = drop (length a) s in
+    rw (over-front a s, over-front b (a ++ rest), over-front b s, e, ← drop-drop k (length a) (a ++ rest), drop-at a rest (length a) refl, drop-drop)
 
 pub over-nothing : (at : ℕ) (s : List ℕ) → over at [] s ≡ s
 unfolding over
@@ -40,6 +65,24 @@ over-append at a b out h =
       drop-at (take at out ++ a) (drop (at + length a) out) (at + length a) front,
     ) (simp (drop-drop, length-append, append-assoc, add-assoc))
 
+-- The part behind is written first.
+pub over-before : (at : ℕ) (a b out : List ℕ) → at + length a ≤ length out → over at a (over (at + length a) b out) ≡ over at (a ++ b) out
+over-before at a b out h =
+    let front : length (take (at + length a) out) ≡ at + length a = length-take-le (at + length a) out h in
+    rw (
+      over-parts (at + length a) b out,
+      over-def at a,
+      take-append-le at (take (at + length a) out) (b ++ drop (at + length a + length b) out) (omega arith),
+      take-take at (at + length a) out (omega arith),
+      drop-at (take (at + length a) out) (b ++ drop (at + length a + length b) out) (at + length a) front,
+      over-parts at (a ++ b) out,
+    ) (simp (length-append, append-assoc, add-assoc))
+
+-- What stands before the place stays.
+pub getD-over : (at i d : ℕ) (v s : List ℕ) → i < at → at ≤ length s → getD (over at v s) i d ≡ getD s i d
+getD-over at i d v s h l =
+    rw (over-parts at v s, List·getD-append (take at s) (v ++ drop (at + length v) s) d i (omega (arith, length-take-le at s l)), getD-take at s i d h)
+
 -- A number is stored at the place.
 pub over-one : (at b : ℕ) (out : List ℕ) → at < length out → set out at b ≡ over at (b ∷ []) out
 unfolding over
@@ -56,25 +99,15 @@ over-last at a b out h =
     let end : at + length (a ++ b ∷ []) ≡ suc k = simp length-append (omega arith) in
     rw (kept, stored, end) (simp append-assoc)
 
+-- A number is stored before the others.
+pub over-store : (at b : ℕ) (text out : List ℕ) → suc at + length text ≤ length out → set (over (suc at) text out) at b ≡ over at (b ∷ text) out
+over-store at b text out l =
+    let inside : at < length (over (suc at) text out) = omega (arith, length-over (suc at) text out l) in
+    rw (over-one at b (over (suc at) text out) inside, ← add-one at) (over-before at (b ∷ []) text out (omega arith))
+
 pub over-next : (at b : ℕ) (text out : List ℕ) → at < length out → over (suc at) text (set out at b) ≡ over at (b ∷ text) out
 over-next at b text out h =
     rw (over-one at b out h, ← add-one at) (over-append at (b ∷ []) text out (omega arith))
-
--- The first number is stored behind the others.
-pub over-before : (at b : ℕ) (text out : List ℕ) → at < length out → set (over (suc at) text out) at b ≡ over at (b ∷ text) out
-over-before at b text out h =
-    let behind = drop (suc at + length text) out in
-    let front : at < length (take (suc at) out) = rw length-take (omega arith) in
-    let stored : set (take (suc at) out ++ text ++ behind) at b ≡ set (take (suc at) out) at b ++ text ++ behind =
-    set-append-left (take (suc at) out ++ text) behind at b (simp length-append (omega arith))
-    ∙ ap (λ (l : List ℕ). l ++ behind) (set-append-left (take (suc at) out) text at b front) in
-    rw (
-      over-def (suc at) text out,
-      stored,
-      ← take-set-lt (suc at) out at b (omega arith),
-      ← drop-set-lt (suc at + length text) out at b (omega arith),
-      ← over-def (suc at) text (set out at b),
-    ) (over-next at b text out h)
 
 -- One number of a part, at the place of those that are left.
 pub over-turn : (at : ℕ) (word : List ℕ) (i : ℕ) (out : List ℕ) → i < length word → at + i < length out

@@ -5,7 +5,7 @@ use mathlib.Core.Bool.{true}
 use borrow.Author.Needs.{needs}
 use borrow.Author.Tests.{not-true, not-false}
 use Rattle.definitions.specs.Generator.{lawfulDegree}
-use Rattle.generator.specs.Lawful.{lawful-is}
+use Rattle.number_laws.specs.Bounds.{lawfulDegree-is}
 use Rattle.generator.specs.Judging.{judgement-unlawful, judgement-lawful}
 use Rattle.generator.proofs.judge.Statement.{statement}
 use Rattle.generator.proofs.judge.Tie as tie
@@ -17,7 +17,7 @@ lawful : (c : tie.Else1) → lawfulDegree (c .before .before .args .degree) ≡ 
 lawful c = sym (c .before .is-lawful-degree .ensures) ∙ not-false _ (c .if1 .left)
 
 judge-pair-requires : tie.Need-judge-pair-requires
-judge-pair-requires c κs = lawful-is _ .0 (lawful c)
+judge-pair-requires c κs = lawfulDegree-is _ .0 (lawful c)
 
 returns-2 : tie.Need-returns-2
 returns-2 c = c .judge-pair .ensures ∙ sym (judgement-lawful _ _ _ (lawful (c .before)))

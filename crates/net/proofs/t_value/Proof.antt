@@ -1,16 +1,14 @@
 -- `net::t_value` meets its contract: each test that fails gives its refusal, in the order of their numbers, and past them t(s) is the definition's.
 -- Assumes nothing.
 use mathlib.Core.Path.{_≡_, sym, ap, _∙_}
-use mathlib.Core.Bool.{true, and-eq-true-iff}
-use native.Mathlib.Omega.{arith}
-use lib.Dec.{leb}
+use mathlib.Core.Bool.{true}
 use borrow.Author.Needs.{needs}
-use borrow.Author.Tests.{not-true, not-false, leb-true}
+use borrow.Author.Tests.{not-true, not-false}
 use Rattle.definitions.specs.Generator.{lawfulDegree, wellFormed}
-use Rattle.definitions.specs.Ranking.{largestTop, lawfulDimension}
+use Rattle.definitions.specs.Ranking.{lawfulDimension}
 use Rattle.definitions.specs.declared.Uniformity.the-variants.{Value}
 use Rattle.fraction_laws.specs.WellFormed.{WellFormed, wellFormed-is}
-use Rattle.generator.specs.Lawful.{Lawful, lawful-is}
+use Rattle.number_laws.specs.Bounds.{LawfulDegree, lawfulDegree-is, lawfulDimension-is}
 use Rattle.net.proofs.AnswerLaws.{wrong-degree, wrong-dimension, ill-formed, measured}
 use Rattle.net.proofs.t_value.Statement.{statement}
 use Rattle.net.proofs.t_value.Tie as tie
@@ -25,8 +23,8 @@ dimension-passed c = sym (c .before .is-lawful-dimension .ensures) ∙ not-false
 pair-passed : (c : tie.Else3) → let a = c .before .before .before .before .before .before .args in wellFormed (a .degree) (a .p) (a .q) ≡ true
 pair-passed c = sym (c .before .is-well-formed .ensures) ∙ not-false _ (c .if3 .left)
 
-lawful : (c : tie.Else1) → Lawful (c .before .before .args .degree)
-lawful c = lawful-is _ .0 (degree-passed c)
+lawful : (c : tie.Else1) → LawfulDegree (c .before .before .args .degree)
+lawful c = lawfulDegree-is _ .0 (degree-passed c)
 
 formed : (c : tie.Else3) → let a = c .before .before .before .before .before .before .args in WellFormed (a .degree) (a .p) (a .q)
 formed c = wellFormed-is _ _ _ .0 (pair-passed c)
@@ -46,12 +44,7 @@ returns-3 c =
 t-at-requires : tie.Need-t-at-requires
 t-at-requires c κs =
     let at = c .before .before .before in
-    let degree = lawful (at .before .before) in
-    let s = at .before .before .before .before .args .dimension in
-    let dimension = and-eq-true-iff (leb 1 s) (leb s largestTop) .0 (dimension-passed at) in (
-      record { low = omega (arith, degree .low); high = omega (arith, degree .high); exactly = formed (c .before) .degree-p },
-      (c .stop-bound .ensures, (leb-true _ _ (dimension .0), leb-true _ _ (dimension .1))),
-    )
+    ((lawful (at .before .before), formed (c .before) .degree-p), (c .stop-bound .ensures, lawfulDimension-is _ .0 (dimension-passed at)))
 
 returns-4 : tie.Need-returns-4
 returns-4 c =

@@ -1,11 +1,11 @@
 -- `generator::degrees::leading_term` meets its contract. Assumes nothing.
 use borrow.Author.Needs.{needs}
-use Rattle.generator.specs.Lawful.{top-is}
+use Rattle.number_laws.specs.Bounds.{lead-is}
 use Rattle.generator.proofs.degrees.leading_term.Statement.{statement}
 use Rattle.generator.proofs.degrees.leading_term.Tie as tie
 
 returns : tie.Need-returns
-returns c = top-is (c .pre)
+returns c = lead-is (c .pre)
 
 pub leading-term-spec : {M : Type 1} → statement M
 leading-term-spec = tie.close (tie.spec (λ c. search needs) returns)

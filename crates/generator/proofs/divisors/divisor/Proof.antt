@@ -7,7 +7,7 @@ use Rattle.generator.proofs.divisors.divisor.Tie as tie
 
 returns : tie.Need-returns
 unfolding flatTable
-returns c = table-at (c .args .m) (c .args .i) (c .pre .0 .low) (c .pre .0 .high) (c .pre .1)
+returns c = table-at (c .args .m) (c .args .i) (c .pre .0) (c .pre .1)
 
 pub divisor-spec : {M : Type 1} → statement M
 divisor-spec =

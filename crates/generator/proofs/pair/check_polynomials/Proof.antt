@@ -2,58 +2,66 @@
 -- Assumes nothing.
 use mathlib.Core.Path.{_≡_, sym, _∙_}
 use mathlib.Core.Bool.{true}
-use native.Mathlib.Omega.{arith}
 use borrow.Author.Needs.{needs}
 use borrow.Author.Tests.{not-true, not-false}
 use Rattle.definitions.specs.Generator.{wellFormed, primitive}
 use Rattle.fraction_laws.specs.WellFormed.{WellFormed, wellFormed-is}
-use Rattle.polynomial.specs.Modulus.{modulus}
+use Rattle.polynomial.specs.Modulus.{lawful-modulus}
 use Rattle.generator.specs.Judging.{Checked, pairVerdict, ill-formed, not-primitive, not-linear}
 use Rattle.generator.specs.declared.pair.Verdict.the-variants.{Refused, Passed}
 use Rattle.generator.proofs.pair.check_polynomials.Statement.{statement}
 use Rattle.generator.proofs.pair.check_polynomials.Tie as tie
 
-returns : tie.Need-returns
+ill-formed-pair : tie.Need-returns
 unfolding Checked pairVerdict
-returns c = ill-formed Refused Passed _ _ _ (sym (c .before .is-well-formed .ensures) ∙ not-true _ (c .if1 .taken))
+ill-formed-pair c = ill-formed Refused Passed _ _ _ (sym (c .before .is-well-formed .ensures) ∙ not-true _ (c .if1 .taken))
 
-well-formed : (c : tie.Else1) → wellFormed (c .before .before .args .m) (c .before .before .args .p) (c .before .before .args .q) ≡ true
+-- ---- of a well-formed pair
+well-formed : (c : tie.Else1) → let a = c .before .before .args in wellFormed (a .m) (a .p) (a .q) ≡ true
 well-formed c = sym (c .before .is-well-formed .ensures) ∙ not-false _ (c .if1 .left)
 
-proper : (c : tie.Else1) → WellFormed (c .before .before .args .m) (c .before .before .args .p) (c .before .before .args .q)
+proper : (c : tie.Else1) → let a = c .before .before .args in WellFormed (a .m) (a .p) (a .q)
 proper c = wellFormed-is _ _ _ .0 (well-formed c)
 
 is-primitive-requires : tie.Need-is-primitive-requires
 is-primitive-requires c κs = (c .before .before .pre, proper c .degree-p)
 
-returns-2 : tie.Need-returns-2
+p-not-primitive : tie.Need-returns-2
 unfolding Checked pairVerdict
-returns-2 c =
+p-not-primitive c =
     not-primitive Refused Passed _ _ _ (well-formed (c .before .before)) (sym (c .before .is-primitive .ensures) ∙ not-true _ (c .if2 .taken))
 
-is-primitive : (c : tie.Else2) → primitive (c .before .before .before .before .args .m) (c .before .before .before .before .args .p) ≡ true
+-- ---- where p is primitive
+abbrev behind : tie.Else2 → tie.Else1
+behind c = c .before .before
+
+is-primitive : (c : tie.Else2) → let a = behind c .before .before .args in primitive (a .m) (a .p) ≡ true
 is-primitive c = sym (c .before .is-primitive .ensures) ∙ not-false _ (c .if2 .left)
 
 linear-quotients-requires : tie.Need-linear-quotients-requires
 linear-quotients-requires c κs =
-    let w = proper (c .before .before .before) in
-    rw (c .leading-term .ensures) (modulus _ _ (omega (arith, c .before .before .before .before .before .pre .low)) (w .degree-p), w .smaller)
+    let at = behind (c .before) in
+    let lead = c .leading-term .ensures in
+    (lawful-modulus (at .before .before .pre) (proper at .degree-p) lead, rw lead (proper at .smaller))
 
-returns-3 : tie.Need-returns-3
+quotient-not-linear : tie.Need-returns-3
 unfolding Checked pairVerdict
-returns-3 c =
-    not-linear Refused Passed _ _ _ (well-formed (c .before .before .before .before .before)) (is-primitive (c .before .before .before))
-    (sym (c .before .linear-quotients .ensures) ∙ not-true _ (c .if3 .taken))
+quotient-not-linear c =
+    let at = c .before .before .before in
+    not-linear Refused Passed _ _ _ (well-formed (behind at)) (is-primitive at) (sym (c .before .linear-quotients .ensures) ∙ not-true _ (c .if3 .taken))
 
-returns-4 : tie.Need-returns-4
+passed : tie.Need-returns-4
 unfolding Checked
-returns-4 c = record {
-  well-formed = well-formed (c .before .before .before .before .before);
-  primitive-p = is-primitive (c .before .before .before);
-  linear = sym (c .before .linear-quotients .ensures) ∙ not-false _ (c .if3 .left);
-}
+passed c =
+    let at = c .before .before .before in
+    record {
+      well-formed = well-formed (behind at);
+      primitive-p = is-primitive at;
+      linear = sym (c .before .linear-quotients .ensures) ∙ not-false _ (c .if3 .left);
+    }
 
 pub check-polynomials-spec : {M : Type 1} → statement M
 check-polynomials-spec =
     tie.close
-    (tie.spec (λ c κs. search needs) returns is-primitive-requires returns-2 (λ c κs. search needs) linear-quotients-requires returns-3 returns-4)
+    (tie.spec (λ c κs. search needs) ill-formed-pair is-primitive-requires p-not-primitive (λ c κs. search needs) linear-quotients-requires
+    quotient-not-linear passed)

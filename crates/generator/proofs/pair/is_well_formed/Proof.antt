@@ -6,9 +6,9 @@ use lib.Dec.{ltb}
 use borrow.Author.Needs.{needs}
 use borrow.Author.Tests.{lt-ltb, ltb-true}
 use Rattle.definitions.specs.Generator.{wellFormed}
+use Rattle.number_laws.specs.Bounds.{lead-high}
 use Rattle.number_laws.specs.Truth.{truth-false, truth-equal}
 use Rattle.fraction_laws.specs.WellFormed.{wellFormed-is}
-use Rattle.generator.specs.Lawful.{top-high}
 use Rattle.generator.proofs.pair.is_well_formed.Statement.{statement}
 use Rattle.generator.proofs.pair.is_well_formed.Tie as tie
 
@@ -16,7 +16,7 @@ returns : tie.Need-returns
 returns c = sym (truth-false _ (λ t. omega (arith, wellFormed-is _ _ _ .0 t .degree-p .least)))
 
 mul-if2 : tie.Need-mul-if2
-mul-if2 c = omega (arith, top-high (c .before .before .pre))
+mul-if2 c = omega (arith, lead-high (c .before .before .pre))
 
 returns-2 : tie.Need-returns-2
 returns-2 c = sym (truth-false _ (λ t. omega (arith, wellFormed-is _ _ _ .0 t .degree-p .most)))
@@ -27,16 +27,16 @@ returns-3 c = sym (truth-false _ (λ t. omega (arith, wellFormed-is _ _ _ .0 t .
 returns-4 : tie.Need-returns-4
 returns-4 c =
     let args = c .before .before .before .before .args in
-    let top = c .before .before .before .leading-term .result in
-    truth-equal (ltb (args .q) top) (wellFormed (args .m) (args .p) (args .q)) (
+    let lead = c .before .before .before .leading-term .result in
+    truth-equal (ltb (args .q) lead) (wellFormed (args .m) (args .p) (args .q)) (
       λ t.
           wellFormed-is (args .m) (args .p) (args .q) .1
           (record {
             degree-p = record { least = omega arith; most = omega arith };
             nonzero = omega arith;
-            smaller = omega (arith, ltb-true (args .q) top t);
+            smaller = omega (arith, ltb-true (args .q) lead t);
           }),
-      λ t. lt-ltb (args .q) top (omega (arith, wellFormed-is (args .m) (args .p) (args .q) .0 t .smaller)),
+      λ t. lt-ltb (args .q) lead (omega (arith, wellFormed-is (args .m) (args .p) (args .q) .0 t .smaller)),
     )
 
 pub is-well-formed-spec : {M : Type 1} → statement M

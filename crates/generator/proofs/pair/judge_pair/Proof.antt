@@ -8,46 +8,55 @@ use borrow.Author.Tests.{eq-eqb, ne-eqb}
 use Rattle.definitions.specs.Number.{gcd}
 use Rattle.definitions.specs.Generator.{step, period}
 use Rattle.definitions.specs.declared.Judgement.the-variants.{Accepted, Rejected}
+use Rattle.number_laws.specs.Bounds.{lead-low}
 use Rattle.fraction_laws.specs.WellFormed.{wellFormed-is}
-use Rattle.generator.specs.Lawful.{top-low}
-use Rattle.generator.specs.Judging.{pairJudgement, checked-refused, checked-fit, not-coprime, all-pass, coprimeStep-def}
+use Rattle.generator.specs.Judging.{Fit, pairJudgement, checked-refused, checked-fit, not-coprime, all-pass, coprimeStep-def}
 use Rattle.generator.specs.Refusals.{pair-refused}
 use Rattle.generator.proofs.pair.judge_pair.Statement.{statement}
 use Rattle.generator.proofs.pair.judge_pair.Tie as tie
 
+-- ---- behind the tests before the step
+abbrev start : tie.After-enum-told → tie.Start
+start c = c .before .before .before
+
+fit : (c : tie.After-enum-told) → let a = start c .args in Fit (a .m) (a .p) (a .q)
+fit c = checked-fit _ _ _ (c .before .before .check-polynomials .ensures) (c .enum-told .given .1)
+
 find-step-requires : tie.Need-find-step-requires
-find-step-requires c κs =
-    let fit = checked-fit _ _ _ (c .before .before .check-polynomials .ensures) (c .enum-told .given .1) in
-    (c .before .before .before .pre, (wellFormed-is _ _ _ .0 (fit .well-formed), fit .primitive-p))
+find-step-requires c κs = (start c .pre, (wellFormed-is _ _ _ .0 (fit c .well-formed), fit c .primitive-p))
 
-sub-gcd-of : tie.Need-sub-gcd-of
-sub-gcd-of c = omega (arith, top-low (c .before .before .before .before .before .pre), c .leading-term .ensures)
+period-positive : tie.Need-sub-gcd-of
+period-positive c = omega (arith, lead-low (start (c .before .before) .pre), c .leading-term .ensures)
 
--- what `gcd_of` gave
-divisor : (c : tie.After-gcd-of) →
-    c .gcd-of .result ≡ gcd (step (c .before .before .before .before .before .before .args .m) (c .before .before .before .before .before .before .args .p) (c .before .before .before .before .before .before .args .q)) (period (c .before .before .before .before .before .before .args .m))
-divisor c = c .gcd-of .ensures ∙ ap₂ gcd (c .before .before .find-step .ensures) (ap (λ (n : ℕ). n - 1) (c .before .leading-term .ensures))
+-- ---- with the greatest common divisor at hand
+abbrev told : tie.After-gcd-of → tie.After-enum-told
+told c = c .before .before .before
 
-returns : tie.Need-returns
+divisor-is : (c : tie.After-gcd-of)
+    → let a = start (told c) .args in c .gcd-of .result ≡ gcd (step (a .m) (a .p) (a .q)) (period (a .m))
+divisor-is c = c .gcd-of .ensures ∙ ap₂ gcd (c .before .before .find-step .ensures) (ap (λ (n : ℕ). n - 1) (c .before .leading-term .ensures))
+
+common-divisor : tie.Need-returns
 unfolding pairJudgement
-returns c =
-    let fit = checked-fit _ _ _ (c .before .before .before .before .before .before .check-polynomials .ensures) (c .before .before .before .before .enum-told .given .1) in
-    sym (not-coprime Rejected (Accepted _) _ _ _ fit (coprimeStep-def _ _ _ ∙ ne-eqb _ 1 (λ e. c .if1 .taken (divisor (c .before) ∙ e))))
+common-divisor c =
+    sym (not-coprime Rejected (Accepted _) _ _ _ (fit (told (c .before)))
+    (coprimeStep-def _ _ _ ∙ ne-eqb _ 1 (λ e. c .if1 .taken (divisor-is (c .before) ∙ e))))
 
-returns-2 : tie.Need-returns-2
+refused : tie.Need-returns-2
 unfolding pairJudgement
-returns-2 c =
-    sym (pair-refused _ _ _ Rejected (Accepted _) (checked-refused _ _ _ (c .before .before .before .check-polynomials .ensures) (c .before .refusal .given .1)))
+refused c =
+    sym (pair-refused _ _ _ Rejected (Accepted _)
+    (checked-refused _ _ _ (c .before .before .before .check-polynomials .ensures) (c .before .refusal .given .1)))
 
-returns-3 : tie.Need-returns-3
+coprime : tie.Need-returns-3
 unfolding pairJudgement
-returns-3 c =
-    let fit = checked-fit _ _ _ (c .before .before .before .before .before .before .check-polynomials .ensures) (c .before .before .before .before .enum-told .given .1) in
+coprime c =
     ap Accepted (c .before .before .before .find-step .ensures)
-    ∙ sym (all-pass Rejected (Accepted _) _ _ _ fit (coprimeStep-def _ _ _ ∙ eq-eqb _ 1 (sym (divisor (c .before)) ∙ c .if1 .left)))
+    ∙ sym (all-pass Rejected (Accepted _) _ _ _ (fit (told (c .before)))
+    (coprimeStep-def _ _ _ ∙ eq-eqb _ 1 (sym (divisor-is (c .before)) ∙ c .if1 .left)))
 
 pub judge-pair-spec : {M : Type 1} → statement M
 judge-pair-spec =
     tie.close
-    (tie.spec (λ c κs. search needs) (λ c. search needs) (λ c. search needs) find-step-requires (λ c κs. search needs) sub-gcd-of
-    (λ c κs. search needs) returns returns-2 returns-3)
+    (tie.spec (λ c κs. search needs) (λ c. search needs) (λ c. search needs) find-step-requires (λ c κs. search needs) period-positive
+    (λ c κs. search needs) common-divisor refused coprime)

@@ -1,69 +1,60 @@
 -- `generator::primitive::none_returns` meets its contract. Invariant: what the test says of the divisors from place i on, it says of all.
 -- Assumes nothing.
-use mathlib.Core.Path.{_≡_, refl, sym, _∙_}
-use Prim.Native.Nat.{_-_, _/_, _^_, _≤_}
+use mathlib.Core.Path.{_≡_}
+use Prim.Native.Nat.{_-_, _/_, _^_}
 use native.Mathlib.Omega.{arith}
 use borrow.Author.Needs.{needs}
-use borrow.Author.Tests.{eq-eqb, ne-eqb}
 use Rattle.definitions.specs.Polynomial.{rem}
-use Rattle.order_laws.specs.Primitive.{returns}
-use Rattle.polynomial.specs.Modulus.{modulus}
-use Rattle.generator.specs.Lawful.{top-low}
-use Rattle.generator.specs.DivisorTable.{places}
-use Rattle.generator.specs.DivisorLoop.{LeftFrom, left-none, left-end, left-hit, left-more}
+use Rattle.definitions.specs.Generator.{period}
+use Rattle.number_laws.specs.Bounds.{lead-low}
+use Rattle.order_laws.specs.Table.{places}
+use Rattle.polynomial.specs.Modulus.{lawful-modulus}
+use Rattle.generator.specs.DivisorLoop.{Testing, testing-start, testing-zero, testing-one, testing-other, testing-end}
 use Rattle.generator.proofs.primitive.none_returns.Statement.{statement}
 use Rattle.generator.proofs.primitive.none_returns.Tie as tie
 
 abbrev Inv-loop : tie.InvT-loop
-Inv-loop m p top i₀ i = LeftFrom m (returns p) i × (i ≤ places)
+Inv-loop m p lead i₀ i = Testing m (λ e. rem (2 ^ e) p) i
 
 abbrev μ-loop : tie.MeasureT-loop
-μ-loop m p top i₀ i = places - i
+μ-loop m p lead i₀ i = places - i
 
-loop-holds : tie.Need-loop-holds Inv-loop μ-loop
-loop-holds c = (refl, omega arith)
+-- ---- with a divisor at hand
+abbrev turn : tie.After-divisor Inv-loop μ-loop → tie.At-loop Inv-loop μ-loop
+turn c = c .before .before
 
-at-none : tie.Need-returns Inv-loop μ-loop
-at-none c =
-    left-none _ (c .before .before .before .before .before .pre .0) _ _ (c .before .before .before .loop .inv .0)
-    (sym (c .before .divisor .ensures) ∙ c .if1 .taken)
+abbrev start : tie.After-divisor Inv-loop μ-loop → tie.Start Inv-loop μ-loop
+start c = turn c .before .before
 
-sub-pow-x : tie.Need-sub-pow-x Inv-loop μ-loop
-sub-pow-x c = omega (arith, top-low (c .before .before .before .before .before .pre .0))
+none-left : tie.Need-returns Inv-loop μ-loop
+none-left c = testing-zero (turn (c .before) .loop .inv) (c .before .divisor .ensures) (c .if1 .taken)
+
+period-positive : tie.Need-sub-pow-x Inv-loop μ-loop
+period-positive c = omega (arith, lead-low (start (c .before) .pre .0))
 
 pow-x-requires : tie.Need-pow-x-requires Inv-loop μ-loop
 pow-x-requires c κs =
-    let pre = c .before .before .before .before .before .pre in
-    rw (c .before .before .before .before .leading-term .ensures) (modulus _ _ (omega (arith, pre .0 .low)) (pre .1))
+    let pre = start (c .before) .pre in
+    lawful-modulus (pre .0) (pre .1) (turn (c .before) .before .leading-term .ensures)
 
 -- what `pow_x` gave, at the power of two itself
-taken : (c : tie.After-pow-x Inv-loop μ-loop) →
-    c .pow-x .result ≡ rem (2 ^ ((2 ^ c .before .before .before .before .before .before .args .m - 1) / c .before .before .divisor .result)) (c .before .before .before .before .before .before .args .p)
-taken c = rw (c .before .before .before .before .before .leading-term .ensures) at (c .pow-x .ensures .0)
+power-is : (c : tie.After-pow-x Inv-loop μ-loop)
+    → let a = start (c .before .before) .args in c .pow-x .result ≡ rem (2 ^ (period (a .m) / c .before .before .divisor .result)) (a .p)
+power-is c = rw (turn (c .before .before) .before .leading-term .ensures) at (c .pow-x .ensures .0)
 
-returns-2 : tie.Need-returns-2 Inv-loop μ-loop
-returns-2 c =
-    left-hit _ (c .before .before .before .before .before .before .before .pre .0) _ _ _
-    (c .before .before .before .before .before .loop .inv .0)
-    (c .before .before .before .divisor .ensures)
-    (c .before .before .if1 .left)
-    (eq-eqb _ 1 (sym (taken (c .before)) ∙ c .if2 .taken))
+one-found : tie.Need-returns-2 Inv-loop μ-loop
+one-found c =
+    let at = c .before .before .before in
+    testing-one (turn at .loop .inv) (at .divisor .ensures) (c .before .before .if1 .left) (power-is (c .before)) (c .if2 .taken)
 
-loop-again : tie.Need-loop-again Inv-loop μ-loop
-loop-again c = (
-  left-more _ (c .before .before .before .before .before .before .before .pre .0) _ _ _
-      (c .before .before .before .before .before .loop .inv .0)
-      (c .before .before .before .divisor .ensures)
-      (c .before .before .if1 .left)
-      (ne-eqb _ 1 (λ e. c .if2 .left (taken (c .before) ∙ e))),
-  omega arith,
-)
-
-returns-3 : tie.Need-returns-3 Inv-loop μ-loop
-returns-3 c = left-end _ (c .before .before .before .pre .0) _ _ (c .before .loop .inv .0) (c .loop-test .left)
+other-value : tie.Need-loop-again Inv-loop μ-loop
+other-value c =
+    let at = c .before .before .before in
+    testing-other (turn at .loop .inv) (at .divisor .ensures) (c .before .before .if1 .left) (power-is (c .before)) (at .before .loop-test .taken) (c .if2 .left)
 
 pub none-returns-spec : {M : Type 1} → statement M
 none-returns-spec =
     tie.close
-    (tie.spec Inv-loop μ-loop (λ c κs. search needs) loop-holds (λ c κs. search needs) at-none sub-pow-x (λ c. search needs) pow-x-requires
-    returns-2 (λ c. search needs) (λ c. search needs) loop-again returns-3)
+    (tie.spec Inv-loop μ-loop (λ c κs. search needs) (λ c. testing-start (c .before .pre .0)) (λ c κs. search needs) none-left period-positive
+    (λ c. search needs) pow-x-requires one-found (λ c. search needs) (λ c. search needs) other-value
+    (λ c. testing-end (c .before .loop .inv) (c .loop-test .left)))

@@ -4,34 +4,34 @@ use Prim.Native.Nat.{_-_, _<_}
 use native.Mathlib.Omega.{arith}
 use borrow.Author.Needs.{needs}
 use Rattle.definitions.specs.Generator.{step}
+use Rattle.number_laws.specs.Bounds.{lead-low, lead-high}
 use Rattle.order_laws.specs.Step.{step-to}
-use Rattle.polynomial.specs.Modulus.{modulus}
-use Rattle.generator.specs.Lawful.{top-low, top-high}
+use Rattle.polynomial.specs.Modulus.{lawful-modulus}
 use Rattle.generator.specs.Finder.{At, at-start, at-found, at-before, at-next}
 use Rattle.generator.proofs.step.find_step.Statement.{statement}
 use Rattle.generator.proofs.step.find_step.Tie as tie
 
 abbrev Inv-loop : tie.InvT-loop
-Inv-loop m p q top power₀ e₀ power e = At m p q power e × (power < top)
+Inv-loop m p q lead power₀ e₀ power e = At m p q power e × (power < lead)
 
 abbrev μ-loop : tie.MeasureT-loop
-μ-loop m p q top power₀ e₀ power e = step m p q - e
+μ-loop m p q lead power₀ e₀ power e = step m p q - e
 
 loop-holds : tie.Need-loop-holds Inv-loop μ-loop
 loop-holds c =
     let pre = c .before .pre in
-    (at-start _ _ _ (pre .0) (pre .1 .0) (pre .1 .1), omega (arith, top-low (pre .0), c .leading-term .ensures))
+    (at-start _ _ _ (pre .0) (pre .1 .0) (pre .1 .1), omega (arith, lead-low (pre .0), c .leading-term .ensures))
 
 times-x-requires : tie.Need-times-x-requires Inv-loop μ-loop
 times-x-requires c κs =
     let pre = c .before .before .before .pre in
-    (rw (c .before .before .leading-term .ensures) (modulus _ _ (omega (arith, pre .0 .low)) (pre .1 .0 .degree-p)), c .before .loop .inv .1)
+    (lawful-modulus (pre .0) (pre .1 .0 .degree-p) (c .before .before .leading-term .ensures), c .before .loop .inv .1)
 
 add-e : tie.Need-add-e Inv-loop μ-loop
 add-e c =
     let pre = c .before .before .before .before .pre in
     let args = c .before .before .before .before .args in
-    omega (arith, c .before .before .loop .inv .0 .most, step-to (args .m) (args .p) (args .q) (omega (arith, pre .0 .low)), top-high (pre .0))
+    omega (arith, c .before .before .loop .inv .0 .most, step-to (args .m) (args .p) (args .q) (omega (arith, pre .0 .low)), lead-high (pre .0))
 
 loop-less : tie.Need-loop-less Inv-loop μ-loop
 loop-less c =

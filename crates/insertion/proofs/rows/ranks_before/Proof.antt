@@ -2,13 +2,14 @@
 -- Assumes nothing.
 use Prim.Native.Nat.{_-_, _≤_}
 use native.Mathlib.Omega.{arith}
+use Rattle.definitions.specs.Ranking.{ranksFrom}
 use Rattle.insertion.proofs.RowLaws as laws
 use borrow.Author.Needs.{needs}
 use Rattle.insertion.proofs.rows.ranks_before.Statement.{statement}
 use Rattle.insertion.proofs.rows.ranks_before.Tie as tie
 
 abbrev Inv-loop : tie.InvT-loop
-Inv-loop a i b j s k₀ k = (3 ≤ k) × (k ≤ s) × laws.Left s i a j b k
+Inv-loop a i b j s k₀ k = (ranksFrom ≤ k) × (k ≤ s) × laws.Left s i a j b k
 
 abbrev μ-loop : tie.MeasureT-loop
 μ-loop a i b j s k₀ k = s - k

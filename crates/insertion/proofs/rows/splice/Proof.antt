@@ -5,11 +5,15 @@ use borrow.Author.Needs.{needs}
 use Rattle.insertion.proofs.rows.splice.Statement.{statement}
 use Rattle.insertion.proofs.rows.splice.Tie as tie
 
+abbrev entry : tie.After-shift → tie.Start
+entry c = c .before .before .before .before
+
 put-in : tie.Need-returns
 put-in c =
-    let g = c .before .before .before .before .before .before .before .before .before .before .args in
-    rw (c .before .before .write-row .ensures, c .before .before .before .before .before .before .shift .ensures)
-    (laws.shifted-paste (g .from) (g .to) (g .width) (g .row .now) (g .out .now) (omega arith) (omega arith))
+    let shifted = c .before .before .before .before .before .before in
+    let g = entry shifted .args in
+    rw (c .before .before .write-row .ensures, shifted .shift .ensures)
+    (laws.shifted-written (g .from) (g .to) (g .width) (g .row .now) (g .out .now) (omega arith) (omega arith))
 
 pub splice-spec : {M : Type 1} → statement M
 splice-spec = tie.close (tie.spec (λ c κs. search needs) (λ c κs. search needs) (λ c. search needs) put-in)

@@ -5,27 +5,39 @@ use borrow.Author.Needs.{needs}
 use Rattle.insertion.proofs.rows.stands_before.Statement.{statement}
 use Rattle.insertion.proofs.rows.stands_before.Tie as tie
 
+-- What is known at entry, at each of the three returns.
+abbrev entry : tie.Then1 → tie.Start
+entry c = c .before .before .before .before
+
+abbrev entry-second : tie.Then2 → tie.Start
+entry-second c = c .before .before .before .before .before .before
+
+abbrev entry-pairs : tie.After-pair-before → tie.Start
+entry-pairs c = c .before .before .before .before .before .before .before
+
+rows-compare : (e : tie.Start) → let g = e .args in laws.Compares (g .width) (g .i) (g .a .now) (g .j) (g .b .now)
+rows-compare e = let g = e .args in laws.rows-compare (g .width) (e .pre .0) (g .i) (g .j) (g .a .now) (g .b .now) (e .pre .1) (e .pre .2)
+
 first-before : tie.Need-returns
-first-before c =
-    let pre = c .before .before .before .before .pre in
-    rw (laws.rows-compare _ (pre .0) _ _ _ _ (pre .1) (pre .2), rw (c .before .ranks-before .ensures) at (c .if1 .taken))
+first-before c = rw (rows-compare (entry c), rw (c .before .ranks-before .ensures) at (c .if1 .taken))
 
 second-before : tie.Need-returns-2
 second-before c =
-    let pre = c .before .before .before .before .before .before .pre in
+    let not-first = c .before .before in
     rw (
-      laws.rows-compare _ (pre .0) _ _ _ _ (pre .1) (pre .2),
-      rw (c .before .before .before .ranks-before .ensures) at (c .before .before .if1 .left),
+      rows-compare (entry-second c),
+      rw (not-first .before .ranks-before .ensures) at (not-first .if1 .left),
       rw (c .before .ranks-before2 .ensures) at (c .if2 .taken),
     )
 
 pairs-decide : tie.Need-returns-3
 pairs-decide c =
-    let pre = c .before .before .before .before .before .before .before .pre in
+    let not-second = c .before in
+    let not-first = not-second .before .before in
     rw (
-      laws.rows-compare _ (pre .0) _ _ _ _ (pre .1) (pre .2),
-      rw (c .before .before .before .before .ranks-before .ensures) at (c .before .before .before .if1 .left),
-      rw (c .before .before .ranks-before2 .ensures) at (c .before .if2 .left),
+      rows-compare (entry-pairs c),
+      rw (not-first .before .ranks-before .ensures) at (not-first .if1 .left),
+      rw (not-second .before .ranks-before2 .ensures) at (not-second .if2 .left),
     ) (c .pair-before .ensures)
 
 pub stands-before-spec : {M : Type 1} → statement M

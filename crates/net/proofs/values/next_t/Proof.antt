@@ -1,41 +1,73 @@
--- `net::values::next_t` meets its contract: one level from what t(s - 1) leaves of m + 1. Assumes nothing.
-use mathlib.Core.Path.{_≡_, ap}
-use Prim.Native.Nat.{ℕ, _+_, _-_}
+-- `values::next_t` meets its contract: one coordinate more, from what t(s - 1) leaves of m + 1. Assumes nothing.
+use mathlib.Core.Path.{_≡_}
+use Prim.Native.Nat.{_-_, _^_, _≤_}
 use native.Mathlib.Omega.{arith}
 use borrow.Author.Needs.{needs}
+use Rattle.definitions.specs.Net.{tValue}
+use Rattle.definitions.specs.Ranking.{largestTop}
+use Rattle.number_laws.specs.Bounds.{LawfulDegree, lead-is}
+use Rattle.polynomial_laws.specs.Degree.{HasDegree}
 use Rattle.net_laws.specs.TValue.{tValue-most}
-use Rattle.net.proofs.ValueLaws.{modulus-of, rest-more, value-of}
+use Rattle.least_weight.proofs.weight.least_weight.Reads as weight
+use Rattle.least_weight.specs.Weight.{PowersOf}
+use Rattle.net.specs.Bound.{Stop}
+use Rattle.net.proofs.ValueLaws.{modulus-of, bounds-of, value-more}
 use Rattle.net.proofs.values.next_t.Statement.{statement}
 use Rattle.net.proofs.values.next_t.Tie as tie
+use Rattle.net.proofs.values.next_t.Reads as reads
+use Rattle.net.proofs.values.next_t.Lts as lts
 
-sub-level-2 : tie.Need-sub-level-2
-sub-level-2 c = let at = c .before in omega (arith, at .pre .1 .1 .1, tValue-most _ _ (at .pre .0 .exactly) (at .args .q) (at .args .s - 1))
+-- ---- what the call asked
+abbrev Start : Type 0
+Start = lts.Start (weight.Asked, weight.Learnt) reads.Pre reads.Post
 
-level-requires : tie.Need-level-requires
-level-requires c κs = let at = c .before .before in (modulus-of (at .pre .0), (c .before .powers .ensures .1, omega (arith, at .pre .0 .high, at .pre .1)))
+abbrev lawful : (c : Start) → LawfulDegree (c .args .degree)
+lawful c = c .pre .0 .0
+
+abbrev degree-p : (c : Start) → HasDegree (c .args .p) (c .args .degree)
+degree-p c = c .pre .0 .1
+
+abbrev stop : (c : Start) → Stop (c .args .degree) (c .args .p) (c .args .q) (c .args .bound)
+stop c = c .pre .1 .0
+
+abbrev powers : (c : Start) → PowersOf (c .args .q) (c .args .p) (2 ^ c .args .degree) (c .args .powers .now)
+powers c = c .pre .1 .1 .0
+
+abbrev dimension : (c : Start) → (2 ≤ c .args .s) × (c .args .s ≤ largestTop)
+dimension c = c .pre .1 .1 .1 .0
+
+abbrev before : (c : Start) → c .args .before ≡ tValue (c .args .degree) (c .args .p) (c .args .q) (c .args .s - 1)
+before c = c .pre .1 .1 .1 .1
+
+-- ---- t(s - 1) is at most the degree
+fits : (c : Start) → c .args .before ≤ c .args .degree
+fits c = omega (arith, before c, tValue-most _ _ (degree-p c) (c .args .q) (c .args .s - 1))
+
+least-weight-requires : tie.Need-least-weight-requires
+least-weight-requires c κs =
+    let d = dimension c in
+    let bounds = bounds-of (lawful c) (degree-p c) (stop c) (c .args .s) (c .args .before) (d .0) (d .1) in
+    (modulus-of (lawful c) (degree-p c), (rw (lead-is (lawful c)) (powers c .residues), (bounds, omega arith)))
 
 returns : tie.Need-returns
 returns c =
-    let at = c .before .before .before in
+    let at = c .before in
     let a = at .args in
-    let last : a .s - 1 + 1 ≡ a .s = omega (arith, at .pre .1 .1 .0) in
-    rw last at
-    (value-of (at .pre .0) (a .q) (a .s - 1 + 1) (c .level .result)
-    (rest-more (at .pre .0) (a .q) (at .pre .1 .0) _ (c .before .before .powers .ensures .0) (a .s - 1) _ (c .level .result) (omega (arith, at .pre .1)) (omega (arith, at .pre .1))
-    (ap (λ (t : ℕ). a .degree + 1 - t) (at .pre .1 .1 .1)) (c .level .ensures)))
+    let d = dimension at in
+    value-more (lawful at) (degree-p at) (stop at) (a .s) (a .before) (d .0) (d .1) (a .powers .now) (powers at .powers) (c .least-weight .result)
+    (before at) (c .least-weight .ensures)
 
 pub next-t-spec : {M : Type 1} → statement M
 next-t-spec =
     tie.close
     (tie.spec
+    (λ c. omega (arith, lawful c .high))
     (λ c. search needs)
-    (λ c κs. modulus-of (c .pre .0))
-    (λ c. search needs)
-    (λ c. search needs)
-    sub-level-2
-    (λ c. search needs)
-    level-requires
-    (λ c. search needs)
-    (λ c. omega (arith, c .level .ensures .less, c .before .before .before .pre .0 .high))
-    (λ c. omega (arith, c .level .ensures .less))
+    (λ c. omega (arith, lawful c .high))
+    (λ c. omega (arith, fits c))
+    (λ c. omega (arith, lawful c .high))
+    least-weight-requires
+    (λ c. omega (arith, lawful (c .before) .high))
+    (λ c. omega (arith, c .least-weight .ensures .less, lawful (c .before) .high))
+    (λ c. omega (arith, c .least-weight .ensures .less))
     returns)

@@ -1,37 +1,41 @@
--- `net::values::t_at` meets its contract: before each turn `least` is what t(j) leaves of m + 1. Assumes nothing.
-use mathlib.Core.Path.{_≡_}
-use Prim.Native.Nat.{_-_, _≤_}
+-- `values::t_at` meets its contract: before each turn `value` is t(dimension), and t(1) = 0. Assumes nothing.
+use mathlib.Core.Path.{_≡_, sym}
+use Prim.Native.Nat.{_+_, _-_, _≤_}
+use native.Mathlib.Nat.{add-sub-cancel}
 use native.Mathlib.Omega.{arith}
 use borrow.Author.Needs.{needs}
-use Rattle.net.proofs.ValueLaws.{modulus-of, rest, rest-first, rest-more, value-of}
+use Rattle.definitions.specs.Net.{tValue}
+use Rattle.net_laws.specs.TValue.{tValue-first}
 use Rattle.net.proofs.values.t_at.Statement.{statement}
 use Rattle.net.proofs.values.t_at.Tie as tie
 
 abbrev Invariant : tie.InvT-loop
-Invariant degree p q s bound top w least₀ j₀ least j = (1 ≤ j) × (j ≤ s) × (least ≡ rest degree p q j)
+Invariant degree p q s bound powers value₀ dimension₀ value dimension = (1 ≤ dimension) × (dimension ≤ s) × (value ≡ tValue degree p q dimension)
 
 abbrev measure : tie.MeasureT-loop
-measure degree p q s bound top w least₀ j₀ least j = s - j
+measure degree p q s bound powers value₀ dimension₀ value dimension = s - dimension
 
 loop-holds : tie.Need-loop-holds Invariant measure
-loop-holds c = (omega arith, c .before .pre .1 .1 .0, rest-first (c .before .pre .0) (c .before .args .q))
+loop-holds c =
+    let at = c .before in
+    (omega arith, at .pre .1 .1 .low, sym (tValue-first _ _ (at .pre .0 .1) (at .args .q)))
 
-level-requires : tie.Need-level-requires Invariant measure
-level-requires c κs = let at = c .before .before .before .before in (modulus-of (at .pre .0), (c .before .before .before .powers .ensures .1, omega (arith, at .pre .0 .high, at .pre .1)))
+next-t-requires : tie.Need-next-t-requires Invariant measure
+next-t-requires c κs =
+    let at = c .before .before .before .before in
+    let l = c .before .before .loop in
+    let powers = c .before .before .before .powers .ensures in
+    let known : l .value ≡ tValue (at .args .degree) (at .args .p) (at .args .q) (l .dimension + 1 - 1) = rw add-sub-cancel (l .inv .2) in
+    (at .pre .0, (at .pre .1 .0, (powers, ((omega (arith, l .inv .0), omega (arith, at .pre .1 .1 .high)), known))))
 
 loop-again : tie.Need-loop-again Invariant measure
-loop-again c =
-    let l = c .before .before .before .loop in
-    let at = c .before .before .before .before .before in
-    let known = c .before .before .before .before .powers .ensures .0 in
-    (omega arith, omega arith, rest-more (at .pre .0) (at .args .q) (at .pre .1 .0) _ known (l .j) (l .least) (c .level .result) (l .inv .0) (omega (arith, at .pre .1)) (l .inv .2) (c .level .ensures))
+loop-again c = (omega arith, omega arith, c .next-t .ensures)
 
 returns : tie.Need-returns Invariant measure
 returns c =
-    let at = c .before .before .before in
     let l = c .before .loop in
-    let last : l .j ≡ at .args .s = omega arith in
-    rw (← last) (value-of (at .pre .0) (at .args .q) (l .j) (l .least) (l .inv .2))
+    let last : l .dimension ≡ c .before .before .before .args .s = omega arith in
+    rw (← last) (l .inv .2)
 
 pub t-at-spec : {M : Type 1} → statement M
 t-at-spec =
@@ -39,16 +43,10 @@ t-at-spec =
     (tie.spec
     Invariant
     measure
-    (λ c. search needs)
-    (λ c κs. modulus-of (c .pre .0))
-    (λ c. search needs)
-    (λ c. search needs)
+    (λ c κs. c .pre .0)
     loop-holds
-    level-requires
-    (λ c. omega arith)
-    (λ c. omega arith)
+    (λ c. search needs)
+    next-t-requires
+    (λ c. search needs)
     loop-again
-    (λ c. search needs)
-    (λ c. search needs)
-    (λ c. search needs)
     returns)

@@ -19,10 +19,13 @@ Inv-loop a b m quotient₀ remainder₀ quotient remainder = (prod quotient b �
 abbrev μ-loop : tie.MeasureT-loop
 μ-loop a b m quotient₀ remainder₀ quotient remainder = remainder
 
+abbrev reached : tie.After-degree-of2 Inv-loop μ-loop → tie.At-loop Inv-loop μ-loop
+reached c = c .before .before
+
 turn-at : (c : tie.After-degree-of2 Inv-loop μ-loop)
-    → Turn (c .before .before .loop .remainder) (c .before .before .before .before .args .b) (c .degree-of2 .result) (c .before .before .before .degree-of .result)
+    → let at = reached c in Turn (at .loop .remainder) (at .before .before .args .b) (c .degree-of2 .result) (at .before .degree-of .result)
 turn-at c =
-    let at = c .before .before in
+    let at = reached c in
     turn (at .before .before .pre) (at .loop .inv .1) (c .degree-of2 .ensures .0) (at .before .degree-of .ensures .0) (c .before .loop-test .taken)
 
 less : tie.Need-loop-less Inv-loop μ-loop
@@ -30,7 +33,7 @@ less c = turn-less (turn-at c)
 
 kept : tie.Need-loop-again Inv-loop μ-loop
 kept c =
-    let at = c .before .before .loop in
+    let at = reached c .loop in
     (turn-keeps (turn-at c) (at .quotient) ∙ at .inv .0, omega (arith, less c))
 
 divided : tie.Need-returns Inv-loop μ-loop

@@ -1,15 +1,15 @@
--- `polynomial::fractions::linear_quotients` meets its contract. The invariant: the test of (a, b) is the test of (p, q), `lead` is the leading term
--- of a, and b is below it. The measure is `lead`. Assumes nothing.
+-- `polynomial::fractions::linear_quotients` meets its contract. The invariant: the test of (a, b) is the test of (p, q), `lead_of_a` is the leading term
+-- of a, and b is below it. The measure is `lead_of_a`. Assumes nothing.
 use native.Mathlib.Omega.{arith}
 use Rattle.polynomial.specs.Fractions.{Run, run-start, run-end, run-refused, run-by-x, run-by-other}
 use Rattle.polynomial.proofs.fractions.linear_quotients.Statement.{statement}
 use Rattle.polynomial.proofs.fractions.linear_quotients.Tie as tie
 
 abbrev Inv-loop : tie.InvT-loop
-Inv-loop p q top a₀ b₀ lead₀ a b lead = Run p q a b lead
+Inv-loop p q lead a₀ b₀ lead-of-a₀ a b lead-of-a = Run p q a b lead-of-a
 
 abbrev μ-loop : tie.MeasureT-loop
-μ-loop p q top a₀ b₀ lead₀ a b lead = lead
+μ-loop p q lead a₀ b₀ lead-of-a₀ a b lead-of-a = lead-of-a
 
 refused : tie.Need-returns Inv-loop μ-loop
 refused c = run-refused (c .before .before .loop .inv) (c .before .loop-test .taken) (c .if1 .taken)

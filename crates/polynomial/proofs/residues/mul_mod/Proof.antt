@@ -12,15 +12,15 @@ use Rattle.polynomial.proofs.residues.mul_mod.Statement.{statement}
 use Rattle.polynomial.proofs.residues.mul_mod.Tie as tie
 
 abbrev Inv-loop : tie.InvT-loop
-Inv-loop a b p top left₀ term₀ sum₀ left term sum = (term < top) × (sum ⊕ rem (prod left term) p ≡ rem (prod a b) p)
+Inv-loop a b p lead left₀ term₀ sum₀ left term sum = (term < lead) × (sum ⊕ rem (prod left term) p ≡ rem (prod a b) p)
 
 abbrev μ-loop : tie.MeasureT-loop
-μ-loop a b p top left₀ term₀ sum₀ left term sum = left
+μ-loop a b p lead left₀ term₀ sum₀ left term sum = left
 
 digit-fits : tie.Need-mul-sum Inv-loop μ-loop
 digit-fits c =
     let at = c .before .loop in
-    record { fits = omega (arith, digit-mul-le (lowest (at .left)) (at .term), at .inv .0, c .before .before .fits .top .fits) }
+    record { fits = omega (arith, digit-mul-le (lowest (at .left)) (at .term), at .inv .0, c .before .before .fits .lead .fits) }
 
 added : tie.Need-loop-again Inv-loop μ-loop
 added c =

@@ -8,15 +8,16 @@ use Rattle.polynomial.proofs.residues.pow_mod.Statement.{statement}
 use Rattle.polynomial.proofs.residues.pow_mod.Tie as tie
 
 abbrev Inv-loop : tie.InvT-loop
-Inv-loop q e p top result₀ i₀ result i = PowerAt p top q e i result
+Inv-loop q e p lead result₀ i₀ result i = PowerAt p lead q e i result
 
 abbrev μ-loop : tie.MeasureT-loop
-μ-loop q e p top result₀ i₀ result i = i
+μ-loop q e p lead result₀ i₀ result i = i
 
 digit-set : tie.Need-loop-again Inv-loop μ-loop
 digit-set c =
     let at = c .before .before .before in
-    power-odd (at .before .before .pre .0) (at .before .loop .inv) (at .loop-test .taken) (c .before .before .mul-mod .ensures) (c .before .if1 .taken) (c .mul-mod2 .ensures)
+    power-odd (at .before .before .pre .0) (at .before .loop .inv) (at .loop-test .taken) (c .before .before .mul-mod .ensures)
+    (c .before .if1 .taken) (c .mul-mod2 .ensures)
 
 digit-clear : tie.Need-loop-again-2 Inv-loop μ-loop
 digit-clear c =

@@ -8,16 +8,17 @@ use Rattle.polynomial.proofs.residues.pow_x.Statement.{statement}
 use Rattle.polynomial.proofs.residues.pow_x.Tie as tie
 
 abbrev Inv-loop : tie.InvT-loop
-Inv-loop e p top power₀ i₀ power i = PowerAt p top 2 e i power
+Inv-loop e p lead power₀ i₀ power i = PowerAt p lead 2 e i power
 
 abbrev μ-loop : tie.MeasureT-loop
-μ-loop e p top power₀ i₀ power i = i
+μ-loop e p lead power₀ i₀ power i = i
 
 digit-set : tie.Need-loop-again Inv-loop μ-loop
 digit-set c =
     let at = c .before .before .before in
     let h = at .before .before .pre in
-    power-odd h (at .before .loop .inv) (at .loop-test .taken) (c .before .before .mul-mod .ensures) (c .before .if1 .taken) (x-factor h _ (c .times-x .ensures))
+    power-odd h (at .before .loop .inv) (at .loop-test .taken) (c .before .before .mul-mod .ensures)
+    (c .before .if1 .taken) (x-factor h _ (c .times-x .ensures))
 
 digit-clear : tie.Need-loop-again-2 Inv-loop μ-loop
 digit-clear c =

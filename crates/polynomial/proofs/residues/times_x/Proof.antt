@@ -1,13 +1,13 @@
--- `polynomial::residues::times_x` meets its contract: the double is a residue where its digit at `top` is clear, and p takes the digit away where not.
+-- `polynomial::residues::times_x` meets its contract: the double is a residue where its digit at `lead` is clear, and p takes the digit away where not.
 -- Assumes nothing.
 use native.Mathlib.Omega.{arith}
-use Rattle.polynomial.specs.Modulus.{top-fits}
+use Rattle.polynomial.specs.Modulus.{lead-fits}
 use Rattle.polynomial.specs.Residues.{times-x-small, times-x-large}
 use Rattle.polynomial.proofs.residues.times_x.Statement.{statement}
 use Rattle.polynomial.proofs.residues.times_x.Tie as tie
 
 double-fits : tie.Need-mul-double
-double-fits c = record { fits = omega (arith, top-fits (c .pre .0) (c .fits .p .fits)) }
+double-fits c = record { fits = omega (arith, lead-fits (c .pre .0) (c .fits .p .fits)) }
 
 digit-clear : tie.Need-returns
 digit-clear c = times-x-small (c .before .pre .0) (c .before .args .y) (c .before .pre .1) (c .if1 .taken)

@@ -1,43 +1,72 @@
 -- `offer::offer_pair` tells an accepted pair of the tree by two orders: that of x, and that of q. Assumes nothing.
-use mathlib.Core.Path.{sym, _∙_}
-use Rattle.search.specs.Frame.{stateOf}
+use mathlib.Core.Path.{_≡_, sym, _∙_}
+use mathlib.Core.Bool.{true}
 use borrow.Author.Tests.{not-false, not-true}
+use Rattle.definitions.specs.Generator.{primitive, accepted}
+use Rattle.page_laws.specs.Search.{Search}
+use Rattle.search.specs.Frame.{stateOf, Searching}
 use Rattle.search.proofs.OfferLaws as laws
 use borrow.Author.Needs.{needs}
 use Rattle.search.proofs.offer.offer_pair.Statement.{statement}
 use Rattle.search.proofs.offer.offer_pair.Tie as tie
 
+-- ---- what the call asked
+abbrev at : tie.After-list → tie.Start
+at c = c .before .before .before
+
+abbrev state : tie.After-list → Search
+state c = stateOf (at c .args .out .now) (at c .args .t)
+
+abbrev searching : (c : tie.After-list) → Searching (at c .args .f) (at c .args .last .now) 1 (state c)
+searching c = at c .pre .0
+
+is-primitive-requires : tie.Need-is-primitive-requires
+is-primitive-requires c κs = (searching c .framed .lawful .degree, at c .pre .1 .0 .degree-p)
+
 returns : tie.Need-returns
 returns c =
-    let g = c .before .before .before .before .args in
-    laws.pair-not-primitive (g .f) (g .last .now) (stateOf (g .out .now) (g .t)) (g .p) (g .q) (sym (c .before .is-primitive .ensures) ∙ not-true _ (c .if1 .taken))
+    let l = c .before .before in
+    let a = at l .args in
+    laws.pair-not-primitive (a .f) (a .last .now) (state l) (a .p) (a .q) (sym (c .before .is-primitive .ensures) ∙ not-true _ (c .if1 .taken))
+
+-- ---- p is primitive
+abbrev listed : tie.Else1 → tie.After-list
+listed c = c .before .before
+
+primitive-p : (c : tie.Else1) → primitive (at (listed c) .args .f .list .degree) (at (listed c) .args .p) ≡ true
+primitive-p c = sym (c .before .is-primitive .ensures) ∙ not-false _ (c .if1 .left)
 
 has-full-order-requires : tie.Need-has-full-order-requires
-has-full-order-requires c κs =
-    (c .before .before .before .before .pre .0 .framed .lawful, (c .before .before .before .before .pre .1 .0, sym (c .before .is-primitive .ensures) ∙ not-false _ (c .if1 .left)))
+has-full-order-requires c κs = (searching (listed c) .framed .lawful .degree, (at (listed c) .pre .1 .0, primitive-p c))
 
 returns-2 : tie.Need-returns-2
 returns-2 c =
-    let g = c .before .before .before .before .before .before .args in
-    laws.pair-not-coprime (g .f) (g .last .now) (stateOf (g .out .now) (g .t)) (g .p) (g .q) (sym (c .before .has-full-order .ensures) ∙ not-true _ (c .if2 .taken))
+    let l = listed (c .before .before) in
+    let a = at l .args in
+    laws.pair-not-coprime (a .f) (a .last .now) (state l) (a .p) (a .q) (sym (c .before .has-full-order .ensures) ∙ not-true _ (c .if2 .taken))
+
+-- ---- the pair is accepted
+accepted-pair : (c : tie.Else2) → let a = at (listed (c .before .before)) .args in accepted (a .f .list .degree) (a .p) (a .q) ≡ true
+accepted-pair c =
+    let p = c .before .before in
+    let l = listed p in
+    let a = at l .args in
+    laws.pair-accepted (a .f) (a .last .now) (state l) (a .p) (a .q) (primitive-p p) (at l .pre .1 .1)
+    (sym (c .before .has-full-order .ensures) ∙ not-false _ (c .if2 .left))
 
 offer-row-requires : tie.Need-offer-row-requires
 offer-row-requires c κs =
-    let g = c .before .before .before .before .before .before .before .args in
-    let primitive = sym (c .before .before .before .before .is-primitive .ensures) ∙ not-false _ (c .before .before .before .if1 .left) in
-    let coprime = sym (c .before .before .has-full-order .ensures) ∙ not-false _ (c .before .if2 .left) in
-    let passes = laws.pair-accepted (g .f) (g .last .now) (stateOf (g .out .now) (g .t)) (g .p) (g .q) primitive (c .before .before .before .before .before .before .before .pre .1 .1) coprime in
-    (c .before .before .before .before .before .before .before .pre .0, (c .before .before .before .before .before .before .before .pre .1 .0, passes))
+    let l = listed (c .before .before .before) in
+    (searching l, (at l .pre .1 .0, accepted-pair (c .before)))
 
 returns-3 : tie.Need-returns-3
 returns-3 c =
-    let g = c .before .before .before .before .before .before .before .before .before .before .args in
-    let primitive = sym (c .before .before .before .before .before .before .before .is-primitive .ensures) ∙ not-false _ (c .before .before .before .before .before .before .if1 .left) in
-    let coprime = sym (c .before .before .before .before .before .has-full-order .ensures) ∙ not-false _ (c .before .before .before .before .if2 .left) in
-    let passes = laws.pair-accepted (g .f) (g .last .now) (stateOf (g .out .now) (g .t)) (g .p) (g .q) primitive (c .before .before .before .before .before .before .before .before .before .before .pre .1 .1) coprime in
-    laws.pair-offered (g .f) (g .last .now) (stateOf (g .out .now) (g .t)) (g .p) (g .q) passes (c .before .before .offer-row .ensures)
+    let offered = c .before .before in
+    let accepted = offered .before .before in
+    let l = listed (accepted .before .before) in
+    let a = at l .args in
+    laws.pair-offered (a .f) (a .last .now) (state l) (a .p) (a .q) (accepted-pair accepted) (offered .offer-row .ensures)
 
 pub offer-pair-spec : {M : Type 1} → statement M
 offer-pair-spec =
-    tie.close
-    (tie.spec (λ c κs. search needs) returns has-full-order-requires returns-2 offer-row-requires (λ c. search needs) returns-3)
+    tie.close (tie.spec is-primitive-requires returns has-full-order-requires returns-2 offer-row-requires (λ c. search needs) returns-3)

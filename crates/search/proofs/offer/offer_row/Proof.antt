@@ -1,32 +1,65 @@
 -- `offer::offer_row` goes by where the key stands. Assumes nothing.
 use mathlib.Core.Path.{refl}
+use mathlib.Core.List.{List}
+use Prim.Native.Nat.{ℕ}
+use native.Mathlib.Omega.{arith}
 use Rattle.order_laws.specs.Accepted.{accepted-is}
-use Rattle.search.specs.Frame.{stateOf}
+use Rattle.page_laws.specs.Search.{Search}
+use Rattle.search.specs.Frame.{stateOf, Searching}
 use Rattle.search.proofs.OfferLaws as laws
 use borrow.Author.Needs.{needs}
 use Rattle.search.proofs.offer.offer_row.Statement.{statement}
 use Rattle.search.proofs.offer.offer_row.Tie as tie
 
-weigh-requires : tie.Need-weigh-requires
-weigh-requires c κs = (c .before .before .before .before .pre .0, (c .before .before .before .before .pre .1 .0, (c .before .before .before .before .pre .1 .1, refl)))
+-- ---- what the call asked
+abbrev at : tie.After-numbers → tie.Start
+at c = c .before .before .before .before
 
-offer-known-requires : tie.Need-offer-known-requires
-offer-known-requires c κs =
-    let g = c .before .before .before .before .before .before .before .before .before .before .args in
-    (c .before .before .before .before .before .before .before .before .before .before .pre .0, (c .before .before .before .before .before .before .before .before .before .before .pre .1 .0, (accepted-is (g .f .degree) (g .p) (g .q) .0 (c .before .before .before .before .before .before .before .before .before .before .pre .1 .1) .primitive-p, laws.open-begun (g .f) (g .last .now) (stateOf (g .out .now) (g .t)) (g .p) (g .q) (c .before .before .before .before .before .weigh .last .1 .1 .1 .1 .1 .1 .0) (c .before .before .before .before .before .weigh .ensures) (c .before .before .enum-told3 .given .1))))
+abbrev state : tie.After-numbers → Search
+state c = stateOf (at c .args .out .now) (at c .args .t)
+
+abbrev searching : (c : tie.After-numbers) → Searching (at c .args .f) (at c .args .last .now) 1 (state c)
+searching c = at c .pre .0
+
+weigh-requires : tie.Need-weigh-requires
+weigh-requires c κs = (searching c, (at c .pre .1 .0, (at c .pre .1 .1, refl)))
+
+-- ---- where the key stands, and the numbers written
+abbrev weighed : tie.After-numbers2 → tie.After-weigh
+weighed c = c .before
+
+abbrev written : tie.After-weigh → List ℕ
+written c = c .weigh .last .1 .1 .1 .1 .1 .1 .0
 
 returns : tie.Need-returns
 returns c =
-    let g = c .before .before .before .before .before .before .before .before .args in
-    laws.low-offered (g .f) (g .last .now) (stateOf (g .out .now) (g .t)) (g .p) (g .q) (c .before .before .before .weigh .last .1 .1 .1 .1 .1 .1 .0) (c .before .before .before .weigh .ensures) (c .enum-told .given .1)
+    let w = weighed (c .before .before) in
+    let a = at (w .before) .args in
+    laws.low-offered (a .f) (a .last .now) (state (w .before)) (a .p) (a .q) (written w) (w .weigh .ensures) (c .enum-told .given .1)
+
+abbrev high : tie.After-struct-known → tie.After-enum-told2
+high c = c .before
+
+count-fits : tie.Need-add-t14
+count-fits c = let w = weighed (high c .before .before) in omega (arith, searching (w .before) .few)
 
 returns-2 : tie.Need-returns-2
 returns-2 c =
-    let g = c .before .before .before .before .before .before .before .before .before .args in
-    laws.high-offered (g .f) (g .last .now) (stateOf (g .out .now) (g .t)) (g .p) (g .q) (c .before .before .before .before .weigh .last .1 .1 .1 .1 .1 .1 .0) (c .before .before .before .before .weigh .ensures) (c .before .enum-told2 .given .1)
+    let w = weighed (high c .before .before) in
+    let a = at (w .before) .args in
+    laws.high-offered (a .f) (a .last .now) (state (w .before)) (a .p) (a .q) (written w) (w .weigh .ensures) (high c .enum-told2 .given .1)
+
+offer-known-requires : tie.Need-offer-known-requires
+offer-known-requires c κs =
+    let opened = c .before .before in
+    let w = weighed (opened .before .before) in
+    let s = w .before in
+    let a = at s .args in
+    let begun = laws.open-begun (a .f) (a .last .now) (state s) (a .p) (a .q) (written w) (w .weigh .ensures) (opened .enum-told3 .given .1) in
+    (searching s, (at s .pre .1 .0, (accepted-is (a .f .list .degree) (a .p) (a .q) .0 (at s .pre .1 .1) .primitive-p, begun)))
 
 pub offer-row-spec : {M : Type 1} → statement M
 offer-row-spec =
     tie.close
-    (tie.spec (λ c. search needs) weigh-requires (λ c. search needs) (λ c. search needs) (λ c. search needs) (λ c. search needs)
-    (λ c. search needs) offer-known-requires (λ c. search needs) returns (λ c. search needs) returns-2 (λ c. search needs) (λ c. search needs))
+    (tie.spec (λ c. search needs) weigh-requires (λ c. search needs) (λ c. search needs) count-fits (λ c. search needs) (λ c. search needs)
+    offer-known-requires (λ c. search needs) returns (λ c. search needs) returns-2 (λ c. search needs) (λ c. search needs))

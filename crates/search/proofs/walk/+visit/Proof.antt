@@ -2,6 +2,8 @@
 -- The measure is the number of levels left. Assumes nothing.
 use native.Mathlib.Omega.{arith}
 use Rattle.fraction_laws.specs.Quotients.{two-linear, three-linear}
+use Rattle.search.specs.Frame.{stateOf}
+use Rattle.search.specs.Walk.{Ready}
 use Rattle.search.proofs.WalkLaws as laws
 use borrow.Author.Needs.{needs}
 use Prim.Native.Nat.{ℕ, _<_}
@@ -38,31 +40,66 @@ calls t = (
 )
 
 module _ (t : ℕ) where
+  -- ---- what the call asked
+  abbrev at : visit-lts.After-shared-slice-known (calls t) (here t) visit.Post → visit-lts.Start (calls t) (here t) visit.Post
+  at c = c .before .before
+
+  -- ---- at a leaf
+  abbrev Leaf : Type 0
+  Leaf = visit-lts.Then1 (calls t) (here t) visit.Post
+
+  abbrev ready-leaf : (c : Leaf) → let a = at (c .before) .args in Ready (a .left) (a .p) (a .q) (a .f) (a .last .now) (stateOf (a .out .now) (a .t))
+  ready-leaf c = at (c .before) .pre .1
+
   offer-pair-requires : visit-lts.Need-offer-pair-requires (calls t) (here t) visit.Post
   offer-pair-requires c κs =
-      let r = c .before .before .before .before .pre .1 in
+      let r = ready-leaf (c .before) in
       let z = c .before .if1 .taken in
       (laws.leaf-searching r z, (laws.leaf-well-formed r z, laws.leaf-linear r z))
 
   returns : visit-lts.Need-returns (calls t) (here t) visit.Post
-  returns c = laws.leaf-done (c .before .before .before .before .before .before .before .pre .1) (c .before .before .before .before .if1 .taken) (c .before .before .offer-pair .ensures)
+  returns c =
+      let offered = c .before .before in
+      let leaf = offered .before .before in
+      laws.leaf-done (ready-leaf leaf) (leaf .if1 .taken) (offered .offer-pair .ensures)
+
+  -- ---- at a node: its first child, what was found below it, and its second child
+  abbrev Node : Type 0
+  Node = visit-lts.Else1 (calls t) (here t) visit.Post
+
+  abbrev ready-node : (c : Node) → let a = at (c .before) .args in Ready (a .left) (a .p) (a .q) (a .f) (a .last .now) (stateOf (a .out .now) (a .t))
+  ready-node c = at (c .before) .pre .1
 
   child-requires : visit-lts.Need-child-requires (calls t) (here t) visit.Post
-  child-requires c κs = (two-linear, laws.node-fits (c .before .before .before .pre .1) (c .if1 .left))
+  child-requires c κs = (two-linear, laws.node-fits (ready-node c) (c .if1 .left))
 
   visit-requires : visit-lts.Need-visit-requires (calls t) (here t) visit.Post
-  visit-requires c κs = (omega arith, laws.left-ready (c .before .before .before .before .before .pre .1) (c .before .before .if1 .left) (c .before .child .ensures))
+  visit-requires c κs = let node = c .before .before in (omega arith, laws.left-ready (ready-node node) (node .if1 .left) (c .before .child .ensures))
+
+  abbrev half : visit-lts.After-slice-known3 (calls t) (here t) visit.Post → visit-lts.After-visit (calls t) (here t) visit.Post
+  half c = c .before .before
+
+  abbrev first : visit-lts.After-visit (calls t) (here t) visit.Post → visit-lts.After-child (calls t) (here t) visit.Post
+  first c = c .before .before
 
   child-requires-2 : visit-lts.Need-child-requires-2 (calls t) (here t) visit.Post
-  child-requires-2 c κs = (three-linear, laws.node-fits (c .before .before .before .before .before .before .before .before .pre .1) (c .before .before .before .before .before .if1 .left))
+  child-requires-2 c κs = let node = first (half c) .before in (three-linear, laws.node-fits (ready-node node) (node .if1 .left))
 
   visit-requires-2 : visit-lts.Need-visit-requires-2 (calls t) (here t) visit.Post
   visit-requires-2 c κs =
-      (omega arith, laws.right-ready (c .before .before .before .before .before .before .before .before .before .before .pre .1) (c .before .before .before .before .before .before .before .if1 .left) (c .before .before .before .before .before .before .child .ensures) (c .before .child2 .ensures) (c .before .before .before .before .visit .ensures))
+      let second = c .before in
+      let found = half (second .before) in
+      let node = first found .before in
+      (omega arith, laws.right-ready (ready-node node) (node .if1 .left) (first found .child .ensures) (second .child2 .ensures) (found .visit .ensures))
 
   returns-2 : visit-lts.Need-returns-2 (calls t) (here t) visit.Post
   returns-2 c =
-      laws.node-done (c .before .before .before .before .before .before .before .before .before .before .before .before .before .pre .1) (c .before .before .before .before .before .before .before .before .before .before .if1 .left) (c .before .before .before .before .before .before .before .before .before .child .ensures) (c .before .before .before .before .child2 .ensures) (c .before .before .before .before .before .before .before .visit .ensures) (c .before .before .visit2 .ensures)
+      let whole = c .before .before in
+      let second = whole .before .before in
+      let found = half (second .before) in
+      let node = first found .before in
+      laws.node-done (ready-node node) (node .if1 .left) (first found .child .ensures) (second .child2 .ensures) (found .visit .ensures)
+      (whole .visit2 .ensures)
 
 pub +visit-spec : {M : Type 1} → statement M
 +visit-spec = close levels λ t. visit-lts.spec (calls t) (here t) visit.Post

@@ -1,0 +1,71 @@
+-- The calls with a lent slice, pages and points: what they answer and leave is one statement, `Answered`, over their situations; and what a page or
+-- words that are given, or a refusal, say of both. From the laws of answer and slice together. Assumes nothing.
+use mathlib.Core.Path.{_≡_, refl}
+use mathlib.Core.Bool.{Bool}
+use mathlib.Core.List.{List}
+use Prim.Native.Nat.{ℕ}
+use native.Mathlib.Omega.{arith}
+use lib.ListN.{length}
+use Rattle.definitions.specs.Number.{join, over}
+use Rattle.definitions.specs.Points.{words}
+use Rattle.definitions.specs.Calls.{paging, pageRows, furtherRow, pageAnswer, pageSlice, pointing, wordCount, pointsAnswer, pointsSlice}
+use Rattle.definitions.specs.declared.Refusal.{Refusal}
+use Rattle.definitions.specs.declared.PageRequest.{PageRequest}
+use Rattle.definitions.specs.declared.PageAnswer.{PageAnswer}
+use Rattle.definitions.specs.declared.PageAnswer.the-variants.{Page, NoPage}
+use Rattle.definitions.specs.declared.PointsAnswer.{PointsAnswer}
+use Rattle.definitions.specs.declared.PointsAnswer.the-variants.{Written, NotWritten}
+use Rattle.answer_laws.specs.Unless.{NoneApplies}
+use Rattle.answer_laws.specs.Together.{Answered, refused-keeps, given-writes}
+
+-- ---- a page
+
+module _ (r : PageRequest) (s : List ℕ) where
+  abbrev pub AnsweredPage : PageAnswer → List ℕ → Type 0
+  AnsweredPage = Answered (paging r s) NoPage (Page (length (pageRows r s)) (furtherRow r s)) s (over 0 (join (pageRows r s)) s)
+
+  pub page-answered : AnsweredPage (pageAnswer r s) (pageSlice r s)
+  unfolding pageAnswer pageSlice
+  page-answered = record { answer = refl; slice = refl }
+
+  pub answers-page : {a : PageAnswer} {t : List ℕ} → AnsweredPage a t → (a ≡ pageAnswer r s) × (t ≡ pageSlice r s)
+  unfolding pageAnswer pageSlice
+  answers-page x = (x .answer, x .slice)
+
+  -- A refused page leaves the slice as it was.
+  pub page-keeps : {n : Refusal} → pageAnswer r s ≡ NoPage n → pageSlice r s ≡ s
+  page-keeps = refused-keeps page-answered (λ e. let z : _≡_ {A = ℕ} 0 1 = cc in omega arith)
+
+  -- A page that is given: no situation applies, its numbers are those of the rows, and the rows stand over the front of the slice.
+  pub page-given : {n : ℕ} {further : Bool} → pageAnswer r s ≡ Page n further
+      → NoneApplies (paging r s) × (length (pageRows r s) ≡ n) × (furtherRow r s ≡ further) × (pageSlice r s ≡ over 0 (join (pageRows r s)) s)
+  page-given e =
+      let g = given-writes page-answered (λ k d. let z : _≡_ {A = ℕ} 0 1 = cc in omega arith) e in
+      let f = g .1 in
+      (g .0, (cc), (cc), g .2)
+
+-- ---- points
+
+module _ (m p q first : ℕ) (s : List ℕ) where
+  abbrev pub AnsweredPoints : PointsAnswer → List ℕ → Type 0
+  AnsweredPoints = Answered (pointing m p q first) NotWritten (Written (wordCount m first s)) s (over 0 (words p q first (wordCount m first s)) s)
+
+  pub points-answered : AnsweredPoints (pointsAnswer m p q first s) (pointsSlice m p q first s)
+  unfolding pointsAnswer pointsSlice
+  points-answered = record { answer = refl; slice = refl }
+
+  pub answers-points : {a : PointsAnswer} {t : List ℕ} → AnsweredPoints a t → (a ≡ pointsAnswer m p q first s) × (t ≡ pointsSlice m p q first s)
+  unfolding pointsAnswer pointsSlice
+  answers-points x = (x .answer, x .slice)
+
+  -- A refused call for points leaves the slice as it was.
+  pub points-keep : {n : Refusal} → pointsAnswer m p q first s ≡ NotWritten n → pointsSlice m p q first s ≡ s
+  points-keep = refused-keeps points-answered (λ e. let z : _≡_ {A = ℕ} 0 1 = cc in omega arith)
+
+  -- Words that are given: no situation applies, and they stand over the front of the slice.
+  pub points-given : {n : ℕ} → pointsAnswer m p q first s ≡ Written n
+      → NoneApplies (pointing m p q first) × (wordCount m first s ≡ n) × (pointsSlice m p q first s ≡ over 0 (words p q first (wordCount m first s)) s)
+  points-given e =
+      let g = given-writes points-answered (λ k d. let z : _≡_ {A = ℕ} 0 1 = cc in omega arith) e in
+      let f = g .1 in
+      (g .0, (cc), g .2)

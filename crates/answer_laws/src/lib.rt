@@ -1,0 +1,1 @@
+// Laws of answers, over the definitions. No functions.

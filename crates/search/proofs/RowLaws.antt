@@ -1,0 +1,84 @@
+-- A row that begins p, q, σ, and the same row while σ is not known and 0 stands in its place: both have one key and rank by the same numbers, as
+-- the key has no σ in it. So it is for a pair's row, whose numbers behind σ are its t-values. Assumes nothing.
+use mathlib.Core.Path.{_≡_, refl, sym, ap, _∙_}
+use mathlib.Core.List.{List, [], _∷_, map}
+use Prim.Native.Nat.{ℕ, zero, suc, _+_, _-_, _<_, _≤_}
+use native.Mathlib.Numerals.{add-one}
+use native.Mathlib.Omega.{arith}
+use lib.ListN.{length, take, getD, set}
+use lib.Seq.{take-suc, take-suc-set, take-set-lt}
+use Rattle.definitions.specs.declared.Selection.{Selection}
+use Rattle.definitions.specs.Number.{numbers}
+use Rattle.definitions.specs.Generator.{step}
+use Rattle.definitions.specs.Net.{tValue}
+use Rattle.definitions.specs.Ranking.{leastTop, longestRow, ranksFrom, rowWidth, rowKey, tValues, row}
+use Rattle.ranking_laws.specs.Met.{row-def, row-length}
+use Rattle.insertion.specs.Ranks.{ranksOf}
+use Rattle.search.specs.Standing.{begun, Begun}
+
+-- ---- any row
+
+module _ (p q σ : ℕ) (ranks : List ℕ) where
+  key-without-step : rowKey (p ∷ q ∷ 0 ∷ ranks) ≡ rowKey (p ∷ q ∷ σ ∷ ranks)
+  unfolding rowKey
+  key-without-step = refl
+
+  ranks-without-step : (s : ℕ) → ranksFrom ≤ s → ranksOf s (p ∷ q ∷ 0 ∷ ranks) ≡ ranksOf s (p ∷ q ∷ σ ∷ ranks)
+  unfolding ranksOf
+  ranks-without-step zero h = absurd (omega arith)
+  ranks-without-step (suc zero) h = absurd (omega arith)
+  ranks-without-step (suc (suc zero)) h = absurd (omega arith)
+  ranks-without-step (suc (suc (suc k))) h = refl
+
+-- One number more of b written to w.
+pub take-next : (w b : List ℕ) (s v : ℕ) → s < length w → s < length b → take s w ≡ take s b → v ≡ getD b s 0
+    → take (s + 1) (set w s v) ≡ take (s + 1) b
+take-next w b s v fits inside same e = rw (add-one s, take-suc-set w s v fits, take-suc b s 0 inside, same, e)
+
+map-numbers : (g : ℕ → ℕ) (a n i : ℕ) → i < n → getD (map g (numbers a n)) i 0 ≡ g (i + a)
+unfolding numbers
+map-numbers g a zero i l = absurd (omega arith)
+map-numbers g a (suc n) zero l = ap g (omega arith)
+map-numbers g a (suc n) (suc i) l = map-numbers g (suc a) n i (omega arith) ∙ ap g (omega arith)
+
+-- ---- a pair's row
+
+module _ (l : Selection) (p q : ℕ) where
+  pub key-begun : rowKey (begun l p q) ≡ rowKey (row l p q)
+  unfolding begun
+  key-begun = key-without-step p q _ _ ∙ sym (ap rowKey (row-def l p q))
+
+  pub ranks-begun : (s : ℕ) → ranksFrom ≤ s → ranksOf s (begun l p q) ≡ ranksOf s (row l p q)
+  unfolding begun
+  ranks-begun s h = ranks-without-step p q _ _ s h ∙ sym (ap (ranksOf s) (row-def l p q))
+
+  -- The step written, the row is whole.
+  begun-whole : set (begun l p q) 2 (step (l .degree) p q) ≡ row l p q
+  unfolding begun
+  begun-whole = sym (row-def l p q)
+
+  pub begun-length : leastTop ≤ l .top → length (begun l p q) ≡ rowWidth l
+  unfolding begun
+  begun-length h = sym (ap length (row-def l p q)) ∙ row-length l p q h
+
+  pub begun-at : (s : ℕ) → ranksFrom ≤ s → s < rowWidth l → getD (begun l p q) s 0 ≡ tValue (l .degree) p q s
+  unfolding begun tValues
+  begun-at zero h b = absurd (omega arith)
+  begun-at (suc zero) h b = absurd (omega arith)
+  begun-at (suc (suc zero)) h b = absurd (omega arith)
+  begun-at (suc (suc (suc k))) h b =
+      map-numbers (tValue (l .degree) p q) leastTop (suc (l .top) - leastTop) k (omega arith) ∙ ap (tValue (l .degree) p q) (omega arith)
+
+  pub begun-first : (w : List ℕ) → length w ≡ longestRow → take ranksFrom (set (set (set w 0 p) 1 q) 2 0) ≡ take ranksFrom (begun l p q)
+  unfolding begun
+  begun-first [] e = absurd (omega arith)
+  begun-first (a ∷ []) e = absurd (omega arith)
+  begun-first (a ∷ b ∷ []) e = absurd (omega arith)
+  begun-first (a ∷ b ∷ c ∷ w) e = refl
+
+  module _ {w : List ℕ} (b : Begun l p q w) where
+    pub key-known : rowKey (take (rowWidth l) w) ≡ rowKey (row l p q)
+    key-known = ap rowKey (b .is) ∙ key-begun
+
+    pub step-written : leastTop ≤ l .top → {v : ℕ} → v ≡ step (l .degree) p q → take (rowWidth l) (set w 2 v) ≡ row l p q
+    step-written h {v} e = take-set-lt (rowWidth l) w 2 v (omega arith) ∙ rw (b .is, e) begun-whole
