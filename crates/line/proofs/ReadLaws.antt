@@ -3,7 +3,7 @@
 -- Assumes nothing.
 use mathlib.Core.Path.{_≡_, refl, sym, ap, _∙_}
 use mathlib.Core.List.{List, [], _∷_}
-use Prim.Native.Nat.{ℕ, suc, _+_, _-_, _<_}
+use Prim.Native.Nat.{ℕ, suc, _+_, _-_, _≤_, _<_}
 use native.Mathlib.Numerals.{add-one}
 use native.Mathlib.Omega.{arith}
 use lib.ListN.{length, set}
@@ -36,10 +36,10 @@ module _ (i : ℕ) (out : List ℕ) {l : List ℕ} where
         go [] e r = rw (e, r .1) (refl, over-nothing (i + 1) out ∙ sym (over-nothing i out))
         go (k ∷ o) e r = absurd (let c = r .0 in omega arith)
 
-    pub others-read : (n ≡ 0 → ⊥) → i < length out → Read i out l (n + 1) (set mid i v)
+    pub others-read : (n ≡ 0 → ⊥) → i + 1 + length others ≤ length out → Read i out l (n + 1) (set mid i v)
     unfolding beforeOthers
-    others-read z h = go others e read
+    others-read z room = go others e read room
       where
-        go : (o : List ℕ) → l ≡ beforeOthers v o → Read (i + 1) out o n mid → Read i out l (n + 1) (set mid i v)
-        go [] e r = absurd (z (r .0))
-        go (k ∷ o) e r = rw (e, r .1, r .0, add-one i) (omega arith, over-store i v (k ∷ o) out h)
+        go : (o : List ℕ) → l ≡ beforeOthers v o → Read (i + 1) out o n mid → i + 1 + length o ≤ length out → Read i out l (n + 1) (set mid i v)
+        go [] e r h = absurd (z (r .0))
+        go (k ∷ o) e r h = rw (e, r .1, r .0, add-one i) (omega arith, over-store i v (k ∷ o) out (omega arith))

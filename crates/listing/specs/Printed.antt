@@ -4,7 +4,7 @@
 use mathlib.Core.Path.{_≡_, refl, ap, _∙_}
 use mathlib.Core.Bool.{Bool, true, false, _||_, not}
 use mathlib.Core.List.{List, [], _∷_, _++_, map, append-assoc, append-nil}
-use Prim.Native.Nat.{ℕ, zero, suc, _+_, _-_, _*_, _/_, _%_, _≤_, _<_}
+use Prim.Native.Nat.{ℕ, zero, suc, _+_, _-_, _*_, _/_, _%_, _^_, _≤_, _<_}
 use native.Mathlib.Nat.{zero-add, add-zero, zero-mul, mod-lt, mul-add-div-right, div-eq-of-lt, mul-add-mod-self-right, mod-eq-of-lt}
 use native.Mathlib.Numerals.{add-one}
 use native.Mathlib.Omega.{arith}
@@ -16,6 +16,10 @@ use Rattle.definitions.specs.Number.{join}
 use Rattle.definitions.specs.Listing.{rowText, pageText, pagesText, headerText, totalText, listText}
 use Rattle.definitions.specs.Ranking.{ranked}
 use Rattle.definitions.specs.declared.Selection.{Selection}
+
+-- As many rows as 32 bits count, with one more for the number of the last page.
+abbrev pub mostRows : ℕ
+mostRows = 2 ^ 32 - 1
 
 -- What stands behind a row that `done` rows stand before: the line of its page, where the page or the list ends with it.
 unfoldable pub dueText : ℕ → ℕ → Bool → List ℕ
@@ -36,7 +40,8 @@ unfoldable pub printedList : ℕ → List (List ℕ) → List ℕ
 printedList size [] = pageText 1 0 false
 printedList size (r ∷ rows) = printed size 0 (r ∷ rows)
 
-pub due-true : (size done : ℕ) (further : Bool) → (not further || eqb (done % size + 1) size) ≡ true → dueText size done further ≡ pageText (done / size + 1) (done % size + 1) further
+pub due-true : (size done : ℕ) (further : Bool) → (not further || eqb (done % size + 1) size) ≡ true
+    → dueText size done further ≡ pageText (done / size + 1) (done % size + 1) further
 unfolding dueText
 due-true size done further e = rw (e, dueText)
 
@@ -52,7 +57,8 @@ module _ (size : ℕ) where
   place-row : (k i : ℕ) → i < size → (k * size + i) % size ≡ i
   place-row k i h = mul-add-mod-self-right k size i ∙ mod-eq-of-lt h
 
-  due-page : (k i : ℕ) (further : Bool) → i < size → (not further || eqb (suc i) size) ≡ true → dueText size (k * size + i) further ≡ pageText (suc k) (suc i) further
+  due-page : (k i : ℕ) (further : Bool) → i < size → (not further || eqb (suc i) size) ≡ true
+      → dueText size (k * size + i) further ≡ pageText (suc k) (suc i) further
   due-page k i further h e =
       let row = place-row k i h in
       let test : (not further || eqb ((k * size + i) % size + 1) size) ≡ true = rw (row, add-one i) e in
@@ -102,7 +108,8 @@ module _ (size : ℕ) where
           let all : suc i + length rows ≡ i + suc (length rows) = omega arith in
           rw (left-end k (suc i) room rows h, left-end k i (suc room) (r ∷ rows) (omega arith), all) (simp append-assoc)
 
-  printed-row : (done : ℕ) (r : List ℕ) (rows : List (List ℕ)) → printed size done (r ∷ rows) ≡ rowText r ++ dueText size done (some rows) ++ printed size (suc done) rows
+  printed-row : (done : ℕ) (r : List ℕ) (rows : List (List ℕ))
+      → printed size done (r ∷ rows) ≡ rowText r ++ dueText size done (some rows) ++ printed size (suc done) rows
   unfolding printed
   printed-row done r rows = refl
 
@@ -110,20 +117,23 @@ module _ (size : ℕ) where
   unfolding printed
   printed-none done = refl
 
-  page-left : (r : List ℕ) (rows : List (List ℕ)) (k i room : ℕ) → i + suc room ≡ size → printed size (k * size + i) (r ∷ rows) ≡ leftPage k i (suc room) (r ∷ rows)
+  page-left : (r : List ℕ) (rows : List (List ℕ)) (k i room : ℕ) → i + suc room ≡ size
+      → printed size (k * size + i) (r ∷ rows) ≡ leftPage k i (suc room) (r ∷ rows)
   page-left r [] k i room h =
       rw (printed-row, printed-none, due-end k i (omega arith), left-end k i (suc room) (r ∷ []) (omega arith), take-nil {A = List ℕ} room, add-one i)
       (simp append-nil)
   page-left r (s ∷ rows) k i zero h =
       let next : suc (k * size + i) ≡ suc k * size = omega arith in
-      rw (printed-row (k * size + i) r (s ∷ rows), due-full k i (omega arith), left-more k i 1 (r ∷ s ∷ rows) (omega arith), next) (simp (append-nil, append-assoc))
+      rw (printed-row (k * size + i) r (s ∷ rows), due-full k i (omega arith), left-more k i 1 (r ∷ s ∷ rows) (omega arith), next)
+      (simp (append-nil, append-assoc))
   page-left r (s ∷ rows) k i (suc room) h =
       let next : suc (k * size + i) ≡ k * size + suc i = omega arith in
       rw (printed-row (k * size + i) r (s ∷ rows), due-not k i (omega arith), append-nil (rowText r), next, page-left s rows k (suc i) room (omega arith))
       (left-row r k i (suc room) (s ∷ rows))
 
   pages-more : (within number : ℕ) (rows : List (List ℕ)) → size < length rows
-      → pagesText (suc within) number size rows ≡ join (map rowText (take size rows)) ++ (pageText number size true ++ pagesText within (suc number) size (drop size rows))
+      → pagesText (suc within) number size rows
+      ≡ join (map rowText (take size rows)) ++ (pageText number size true ++ pagesText within (suc number) size (drop size rows))
   unfolding pagesText
   pages-more within number rows h = rw (lt-ltb size (length rows) h)
 
@@ -145,7 +155,8 @@ module _ (size : ℕ) where
   pages-printed (suc within) k rows h l m = go (ltb size (length rows)) refl (pages-printed within (suc k) (drop size rows) h)
     where
       go : (b : Bool) → ltb size (length rows) ≡ b
-          → (1 ≤ length (drop size rows) → length (drop size rows) ≤ within → pagesText (suc within) (suc (suc k)) size (drop size rows) ≡ printed size (suc k * size) (drop size rows))
+          → (1 ≤ length (drop size rows) → length (drop size rows) ≤ within
+          → pagesText (suc within) (suc (suc k)) size (drop size rows) ≡ printed size (suc k * size) (drop size rows))
           → pagesText (suc (suc within)) (suc k) size rows ≡ printed size (k * size) rows
       go true e ih =
           let more = ltb-true size (length rows) e in
@@ -192,4 +203,10 @@ unfolding partText printed
 parts-are-printed size done [] b = rw (add-zero done)
 parts-are-printed size done (r ∷ a) b =
     let next : done + suc (length a) ≡ suc done + length a = omega arith in
-    rw (next, append-assoc (rowText r ++ dueText size done (some a || some b)) (partText size (suc done) (some b) a) (printed size (suc done + length a) b), parts-are-printed size (suc done) a b, some-append a b)
+    let first = rowText r ++ dueText size done (some a || some b) in
+    rw (
+      next,
+      append-assoc first (partText size (suc done) (some b) a) (printed size (suc done + length a) b),
+      parts-are-printed size (suc done) a b,
+      some-append a b,
+    )

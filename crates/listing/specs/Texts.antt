@@ -17,7 +17,8 @@ mostEnding = 6
 abbrev pub pageLine : ℕ → ℕ → List ℕ → List ℕ
 pageLine number rows ending = longLine (letters "page ") number (letters " rows ") rows ending
 
-pub page-line : (number rows : ℕ) (further : Bool) → pageText number rows further ≡ pageLine number rows (cond further (letters " more") (letters " end") ++ newline ∷ [])
+pub page-line : (number rows : ℕ) (further : Bool)
+    → pageText number rows further ≡ pageLine number rows (cond further (letters " more") (letters " end") ++ newline ∷ [])
 unfolding pageText
 page-line number rows further =
     append-assoc (letters "page " ++ decimal number ++ letters " rows " ++ decimal rows) (cond further (letters " more") (letters " end")) (newline ∷ [])

@@ -2,13 +2,13 @@
 ghost use mathlib.Core.Path.{_≡_};
 ghost use Prim.Native.Nat.{_≤_, _<_};
 ghost use Rattle.text.specs.Place.{placed, behind};
-ghost use Rattle.listing.specs.Printed.{dueText};
+ghost use Rattle.listing.specs.Printed.{mostRows, dueText};
 use crate::put_page;
 
 // The line of a row's page, where the page or the list ends with this row; `done` rows stand before it.
 pub fn put_due(out: &mut [u8], at: usize, size: u32, done: u32, further: bool) -> usize
     requires { ⌜ 1 ≤ size ⌝ }
-    requires { ⌜ done < 4000000000 ⌝ }
+    requires { ⌜ done < mostRows ⌝ }
     ensures { λ r. ⌜ r ≡ behind at (dueText size done further) (now (out .entry)) ⌝ }
     ensures { λ _. ⌜ now (out .exit) ≡ placed at (dueText size done further) (now (out .entry)) ⌝ }
 {

@@ -34,7 +34,9 @@ left-anywhere i j (n ∷ r) = ap (λ (t : List ℕ). space ∷ decimal n ++ t) (
 left-row : (n : ℕ) (r : List ℕ) → rowText (n ∷ r) ≡ decimal n ++ leftText 1 r
 unfolding rowText leftText gap
 left-row n [] = refl
-left-row n (k ∷ r) = ap (λ (t : List ℕ). decimal n ++ space ∷ t) (left-row k r) ∙ ap (λ (t : List ℕ). decimal n ++ space ∷ (decimal k ++ t)) (left-anywhere 0 1 r)
+left-row n (k ∷ r) =
+    ap (λ (t : List ℕ). decimal n ++ space ∷ t) (left-row k r)
+    ∙ ap (λ (t : List ℕ). decimal n ++ space ∷ (decimal k ++ t)) (left-anywhere 0 1 r)
 
 pub row-left : (r : List ℕ) → rowText r ≡ leftText 0 r
 unfolding rowText leftText gap

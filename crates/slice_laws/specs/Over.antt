@@ -135,7 +135,8 @@ over-end at word i out h = sym (rw (drop-of-length-le word h) (over-nothing (at 
 
 -- One writer behind another: the second finds room, and together they write both texts.
 module _ (at : ℕ) (a b out : List ℕ) where
-  pub over-then-room : {place : ℕ} {mid : List ℕ} → place ≡ at + length a → mid ≡ over at a out → at + length a + length b ≤ length out → place + length b ≤ length mid
+  pub over-then-room : {place : ℕ} {mid : List ℕ} → place ≡ at + length a → mid ≡ over at a out → at + length a + length b ≤ length out
+      → place + length b ≤ length mid
   over-then-room e k h = rw (e, k, length-over at a out (omega arith)) h
 
   pub over-then : {place r : ℕ} {mid exit : List ℕ} → at + length a + length b ≤ length out → place ≡ at + length a → mid ≡ over at a out

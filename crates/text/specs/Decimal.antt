@@ -30,7 +30,9 @@ decimal-digit n h = rw (lt-ltb n 10 h, decimalWithin)
 
 pub decimal-more : (n : ℕ) → 10 ≤ n → decimal n ≡ decimal (n / 10) ++ (digitZero + n % 10) ∷ []
 unfolding decimal decimalWithin
-decimal-more n h = rw (le-ltb n 10 h, decimalWithin) (ap (λ (l : List ℕ). l ++ (digitZero + n % 10) ∷ []) (decimal-bound n (suc (n / 10)) (n / 10) (omega arith) (omega arith)))
+decimal-more n h =
+    rw (le-ltb n 10 h, decimalWithin)
+    (ap (λ (l : List ℕ). l ++ (digitZero + n % 10) ∷ []) (decimal-bound n (suc (n / 10)) (n / 10) (omega arith) (omega arith)))
 
 -- A number has at least one digit and at most one more than its value.
 pub decimal-length-more : (n : ℕ) → 10 ≤ n → length (decimal n) ≡ suc (length (decimal (n / 10)))

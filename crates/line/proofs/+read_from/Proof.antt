@@ -107,18 +107,21 @@ module _ (t : ℕ) where
       let a = begun (told called) .args in
       others-none (a .i) (now (a .out)) _ _ (more called) (called .read-from .ensures) (c .if3 .taken)
 
+  -- They fit behind the place of this one.
+  fit : (c : lts.After-read-from claims Entry reads.Post) → let a = begun (told c) .args in a .i + 1 + length (others c) ≤ length (now (a .out))
+  fit c =
+      let a = begun (told c) .args in
+      let few : length (others c) ≤ length (now (a .out)) - (a .i + 1) = numbers-few (length (now (a .out)) - (a .i + 1)) _ in
+      omega (arith, room (found (told c) .before))
+
   add-result : lts.Need-add-result claims Entry reads.Post
-  add-result c =
-      let called = c .before .before .before in
-      let a = begun (told called) .args in
-      let few : length (others called) ≤ length (now (a .out)) - (a .i + 1) = numbers-few (length (now (a .out)) - (a .i + 1)) _ in
-      omega (arith, called .read-from .ensures .0, begun (told called) .good)
+  add-result c = let called = c .before .before .before in omega (arith, fit called, called .read-from .ensures .0, begun (told called) .good)
 
   returns-4 : lts.Need-returns-4 claims Entry reads.Post
   returns-4 c =
       let called = c .before .before .before in
       let a = begun (told called) .args in
-      others-read (a .i) (now (a .out)) _ _ (more called) (called .read-from .ensures) (c .if3 .left) (room (found (told called) .before))
+      others-read (a .i) (now (a .out)) _ _ (more called) (called .read-from .ensures) (c .if3 .left) (fit called)
 
   read-from-requires : lts.Need-read-from-requires claims Entry reads.Post
   read-from-requires c κs =

@@ -27,11 +27,13 @@ add-put-page : tie.Need-add-put-page
 add-put-page c = let a = c .before .before .before .args in omega (arith, div-le-self (a .done) (a .size))
 
 -- By which way the line is due.
-due : (c : tie.Joined1) → let a = c .before .before .args in dueText (a .size) (a .done) (a .further) ≡ pageText (a .done / a .size + 1) (a .done % a .size + 1) (a .further)
+due : (c : tie.Joined1) → let a = c .before .before .args in
+    dueText (a .size) (a .done) (a .further) ≡ pageText (a .done / a .size + 1) (a .done % a .size + 1) (a .further)
 due c =
     let start = c .before .before in
     let a = start .args in
-    ⊎-elim (λ w. rw (w .0 .taken) (due-at-full (a .size) (a .done) (start .pre .0) (ltb-false _ _ (w .1 .left)))) (λ w. rw (w .left) (due-at-end (a .size) (a .done) (start .pre .0))) (c .if1 .came)
+    ⊎-elim (λ w. rw (w .0 .taken) (due-at-full (a .size) (a .done) (start .pre .0) (ltb-false _ _ (w .1 .left))))
+    (λ w. rw (w .left) (due-at-end (a .size) (a .done) (start .pre .0))) (c .if1 .came)
 
 returns-2 : tie.Need-returns-2
 returns-2 c = rw (due (c .before .before .before .before)) (c .before .before .put-page .ensures)

@@ -24,7 +24,11 @@ returns : tie.Need-returns Inv-loop μ-loop
 returns c = let a = c .before .before .args in ap (λ (n : ℕ). leb n (a .room)) (sym (row-none (now (a .row)) (c .if1 .taken)))
 
 add-k : tie.Need-add-k Inv-loop μ-loop
-add-k c = let turn = c .before .before in omega (arith, c .digits .ensures, decimal-short (getD (now (turn .before .before .before .before .args .row)) (turn .before .loop .i) 0), c .before .shared-slice-known2 .given (turn .before .loop .i))
+add-k c =
+    let turn = c .before .before in
+    let i = turn .before .loop .i in
+    let row = now (turn .before .before .before .before .args .row) in
+    omega (arith, c .digits .ensures, decimal-short (getD row i 0), c .before .shared-slice-known2 .given i)
 
 returns-2 : tie.Need-returns-2 Inv-loop μ-loop
 returns-2 c =

@@ -38,12 +38,14 @@ write-decimal-requires c κs =
     let here = turn .before .loop in
     let row = now (turn .before .before .before .before .args .row) in
     let whole = left-turn-length row (here .i) (turn .loop-test .taken) in
-    over-then-room (here .place) (gap (here .i)) (decimal (getD row (here .i) 0)) (here .out) (wrote .write-gap .ensures .0) (wrote .write-gap .ensures .1) (omega arith)
+    over-then-room (here .place) (gap (here .i)) (decimal (getD row (here .i) 0)) (here .out)
+    (wrote .write-gap .ensures .0) (wrote .write-gap .ensures .1) (omega arith)
 
 loop-again : tie.Need-loop-again Inv-loop μ-loop
 loop-again c =
     let wrote = c .before .before in
-    let spaced = wrote .before .before .before .before .before in
+    let start = wrote .before .before in
+    let spaced = start .before .before .before in
     let turn = spaced .before .before in
     let here = turn .before .loop in
     let row = now (turn .before .before .before .before .args .row) in

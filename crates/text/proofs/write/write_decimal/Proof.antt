@@ -52,9 +52,11 @@ same-length c = simp length-set (c .before .loop .inv .0)
 
 returns : tie.Need-returns Inv-loop μ-loop
 returns c =
-    let now = c .before .loop in (
-      omega (arith, c .before .before .digits .ensures),
-      decimal-last (c .before .before .before .before .args .at) (now .rest) (now .out) (c .loop-test .left) (omega (arith, decimal-some (now .rest))) ∙ now .inv .3,
+    let now = c .before .loop in
+    let digits = c .before .before in
+    let inside = decimal-some (now .rest) in (
+      omega (arith, digits .digits .ensures),
+      decimal-last (digits .before .before .args .at) (now .rest) (now .out) (c .loop-test .left) (omega arith) ∙ now .inv .3,
     )
 
 pub write-decimal-spec : {M : Type 1} → statement M

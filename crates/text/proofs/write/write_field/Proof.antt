@@ -18,7 +18,8 @@ returns c =
     let last = c .before .before in
     let called = last .before .before .before .before in
     let a = called .before .before .before .before .args in
-    over-then (a .at) (now (a .word)) (decimal (a .n)) (now (a .out)) (omega arith) (called .write-word .ensures .0) (called .write-word .ensures .1) (last .write-decimal .ensures .0) (last .write-decimal .ensures .1)
+    over-then (a .at) (now (a .word)) (decimal (a .n)) (now (a .out)) (omega arith) (called .write-word .ensures .0) (called .write-word .ensures .1)
+    (last .write-decimal .ensures .0) (last .write-decimal .ensures .1)
 
 pub write-field-spec : {M : Type 1} → statement M
 write-field-spec = tie.close (tie.spec (search needs) write-decimal-requires (search needs) returns)
