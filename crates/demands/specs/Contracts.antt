@@ -45,7 +45,7 @@ use Rattle.points.proofs.points.Reads as points
 use Rattle.catalogue.proofs.«open».Reads as opened
 use Rattle.catalogue.proofs.lookup.Reads as lookup
 use Rattle.catalogue.proofs.body.Reads as body
-use Rattle.catalogue.proofs.reader as reader
+use Rattle.catalogue_reader.proofs.reader as reader
 
 -- ---- judging
 

@@ -14,8 +14,8 @@ use Rattle.points.proofs.points.Reads as points
 use Rattle.catalogue.proofs.«open».Reads as opened
 use Rattle.catalogue.proofs.lookup.Reads as lookup
 use Rattle.catalogue.proofs.body.Reads as body
-use Rattle.catalogue.proofs.row_at.Reads as row-at
-use Rattle.catalogue.proofs.place_behind.Reads as place-behind
+use Rattle.catalogue_reader.proofs.row_at.Reads as row-at
+use Rattle.catalogue_reader.proofs.place_behind.Reads as place-behind
 use Rattle.line.proofs.read_numbers.Reads as read-numbers
 use Rattle.listing.proofs.read_line.Reads as read-line
 use Rattle.listing.proofs.put_decimal.Reads as put-decimal
@@ -24,9 +24,9 @@ use Rattle.listing.proofs.put_row.Reads as put-row
 use Rattle.listing.proofs.put_page.Reads as put-page
 use Rattle.listing.proofs.put_total.Reads as put-total
 use Rattle.listing.proofs.put_refused.Reads as put-refused
-use Rattle.catalogue.proofs.reader as reader
-use Rattle.catalogue.proofs.next as next
-use Rattle.catalogue.proofs.advance as advance
+use Rattle.catalogue_reader.proofs.reader as reader
+use Rattle.catalogue_reader.proofs.next as next
+use Rattle.catalogue_reader.proofs.advance as advance
 use Rattle.interface.proofs.fenyurka_judge.Reads as c-judge
 use Rattle.interface.proofs.fenyurka_t_value.Reads as c-t-value
 use Rattle.interface.proofs.fenyurka_first_page.Reads as c-first-page

@@ -1,12 +1,26 @@
 // Pages of the ranked list.
 ghost use mathlib.Core.Path.{_≡_};
-ghost use Rattle.definitions.specs.Calls.{pageAnswer, pageSlice};
+ghost use Rattle.definitions.specs.Calls.{pageRequest, pageAnswer, pageSlice};
 use definitions::PageAnswer;
 use definitions::PageRequest;
 use definitions::Position;
 use definitions::Refusal;
+use definitions::Selection;
+use generator::pair::Verdict;
+use search::frame;
 
-pub mod serve; // a page of a lawful degree and top dimension
+pub mod serve; // the rows of a lawful list at a position that is not refused
+
+// The request for a page of a list.
+pub fn request(list: Selection, position: Position) -> PageRequest
+    ensures { λ r. ⌜ r ≡ pageRequest list position ⌝ }
+{
+    PageRequest {
+        degree: list.degree,
+        top: list.top,
+        position: position,
+    }
+}
 
 // The rows of the ranked list above the position, as many as fit `out`, from its front: how many, and whether a further row exists; or document
 // 01's refusal 1 or 2, 3 to 6 for a position after a pair, or 7. Every number behind the rows stays, and a refusal writes nothing.
@@ -14,17 +28,25 @@ pub fn page(request: PageRequest, out: &mut [u32]) -> PageAnswer
     ensures answer { λ a. ⌜ a ≡ pageAnswer request (now (out .entry)) ⌝ }
     ensures slice { λ a. ⌜ now (out .exit) ≡ pageSlice request (now (out .entry)) ⌝ }
 {
-    let degree = request.degree;
-    let top = request.top;
+    let list = Selection {
+        degree: request.degree,
+        top: request.top,
+    };
     let position = request.position;
-    if !limits::is_lawful_degree(degree) {
+    if !limits::is_lawful_degree(list.degree) {
         return PageAnswer::NoPage(Refusal::WrongDegree);
     }
-    if !limits::is_lawful_top(top) {
+    if !limits::is_lawful_top(list.top) {
         return PageAnswer::NoPage(Refusal::WrongDimension);
     }
-    match position {
-        Position::Start => serve::first_page(degree, top, out),
-        Position::After(p, q) => serve::next_page(degree, top, p, q, out),
+    match serve::check_position(list.degree, position) {
+        Verdict::Refused(refusal) => PageAnswer::NoPage(refusal),
+        Verdict::Passed => {
+            if out.len() < frame::width_of(list) {
+                return PageAnswer::NoPage(Refusal::ShortSlice);
+            }
+            let filled = serve::fill(list, position, out);
+            PageAnswer::Page(filled.rows, filled.further)
+        }
     }
 }

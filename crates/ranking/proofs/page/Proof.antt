@@ -1,61 +1,98 @@
--- `page` refuses in the order of the numbers, and else answers with the page at its position. Assumes nothing.
-use mathlib.Core.Path.{sym, _∙_}
+-- `page` refuses by the first situation of the request that applies, and else fills the slice at its position. Assumes nothing.
+use mathlib.Core.Path.{_≡_, sym, _∙_}
+use mathlib.Core.Bool.{true, false}
+use native.Mathlib.Omega.{arith}
 use borrow.Author.Tests.{not-false, not-true}
-use Rattle.generator.specs.Lawful.{lawful-is}
-use Rattle.ranking.proofs.ServeLaws as laws
+use Rattle.definitions.specs.Calls.{selectionOf}
+use Rattle.definitions.specs.Generator.{lawfulDegree}
+use Rattle.definitions.specs.Ranking.{lawfulTop}
+use Rattle.number_laws.specs.Bounds.{lawfulDegree-is, lawfulTop-is}
+use Rattle.generator.specs.declared.pair.Verdict.the-variants.{Passed}
+use Rattle.search.specs.Frame.{LawfulList}
+use Rattle.ranking.specs.Serve.{positionVerdict}
+use Rattle.ranking.proofs.PageLaws as laws
+use Rattle.ranking.proofs.PositionLaws.{position-decides, position-passes, position-listed}
 use borrow.Author.Needs.{needs}
 use Rattle.ranking.proofs.page.Statement.{statement}
 use Rattle.ranking.proofs.page.Tie as tie
 
-returns : tie.Need-returns
-returns c =
+-- ---- a lawful list: what is known at entry, and the two tests
+
+abbrev entry : tie.Else2 → tie.Start
+entry c = c .before .before .before .before .before
+
+degree-lawful : (c : tie.Else2) → lawfulDegree (entry c .args .request .degree) ≡ true
+degree-lawful c = let tested = c .before .before in sym (tested .before .is-lawful-degree .ensures) ∙ not-false _ (tested .if1 .left)
+
+top-lawful : (c : tie.Else2) → lawfulTop (entry c .args .request .top) ≡ true
+top-lawful c = sym (c .before .is-lawful-top .ensures) ∙ not-false _ (c .if2 .left)
+
+list-lawful : (c : tie.Else2) → LawfulList (selectionOf (entry c .args .request))
+list-lawful c = record { degree = lawfulDegree-is _ .0 (degree-lawful c); top = lawfulTop-is _ .0 (top-lawful c) }
+
+-- ---- a position that passed
+
+abbrev lawful : tie.After-enum-told → tie.Else2
+lawful c = c .before .before .before
+
+passed : (c : tie.After-enum-told) → let r = entry (lawful c) .args .request in positionVerdict (r .degree) (r .position) ≡ Passed
+passed c = sym (c .before .before .check-position .ensures) ∙ c .enum-told .given .1
+
+abbrev to-fill : tie.After-fill-arg → tie.After-enum-told
+to-fill c = c .before .before .before
+
+-- ---- the returns
+
+wrong-degree : tie.Need-returns
+wrong-degree c =
     let g = c .before .before .before .args in
-    let d = sym (c .before .is-lawful-degree .ensures) ∙ not-true _ (c .if1 .taken) in
-    (laws.wrong-degree-answer (g .request) (g .out .now) d, laws.wrong-degree-slice (g .request) (g .out .now) d)
+    laws.wrong-degree (g .request) (g .out .now) (sym (c .before .is-lawful-degree .ensures) ∙ not-true _ (c .if1 .taken))
 
-returns-2 : tie.Need-returns-2
-returns-2 c =
-    let g = c .before .before .before .before .before .args in
-    let d = sym (c .before .before .before .is-lawful-degree .ensures) ∙ not-false _ (c .before .before .if1 .left) in
-    let t = sym (c .before .is-lawful-top .ensures) ∙ not-true _ (c .if2 .taken) in
-    (laws.wrong-top-answer (g .request) (g .out .now) d t, laws.wrong-top-slice (g .request) (g .out .now) d t)
+wrong-top : tie.Need-returns-2
+wrong-top c =
+    let tested = c .before .before in
+    let g = tested .before .before .before .args in
+    let degree = sym (tested .before .is-lawful-degree .ensures) ∙ not-false _ (tested .if1 .left) in
+    laws.wrong-top (g .request) (g .out .now) degree (sym (c .before .is-lawful-top .ensures) ∙ not-true _ (c .if2 .taken))
 
-first-page-requires : tie.Need-first-page-requires
-first-page-requires c κs =
-    let g = c .before .before .before .before .before .before .before .before .args in
-    let d = sym (c .before .before .before .before .before .before .is-lawful-degree .ensures) ∙ not-false _ (c .before .before .before .before .before .if1 .left) in
-    let t = sym (c .before .before .before .before .is-lawful-top .ensures) ∙ not-false _ (c .before .before .before .if2 .left) in
-    (lawful-is (g .request .degree) .0 d, laws.lawful-top (g .request .top) t)
+degree-asked : tie.Need-check-position-requires
+degree-asked c κs = list-lawful c .degree
 
-next-page-requires : tie.Need-next-page-requires
-next-page-requires c κs =
-    let g = c .before .before .before .before .before .before .before .before .before .args in
-    let d = sym (c .before .before .before .before .before .before .before .is-lawful-degree .ensures) ∙ not-false _ (c .before .before .before .before .before .before .if1 .left) in
-    let t = sym (c .before .before .before .before .before .is-lawful-top .ensures) ∙ not-false _ (c .before .before .before .before .if2 .left) in
-    (lawful-is (g .request .degree) .0 d, laws.lawful-top (g .request .top) t)
+short-slice : tie.Need-returns-3
+short-slice c =
+    let at = c .before .before in
+    let list = lawful at in
+    let g = entry list .args in
+    let none = position-passes (g .request .degree) (g .request .position) (passed at) in
+    laws.short-slice (g .request) (g .out .now) (degree-lawful list) (top-lawful list) none (omega (arith, c .before .width-of .ensures))
 
-returns-3 : tie.Need-returns-3
-returns-3 c =
-    let g = c .before .before .before .before .before .before .before .before .before .before .before .args in
-    let d = sym (c .before .before .before .before .before .before .before .before .before .is-lawful-degree .ensures) ∙ not-false _ (c .before .before .before .before .before .before .before .before .if1 .left) in
-    let t = sym (c .before .before .before .before .before .before .before .is-lawful-top .ensures) ∙ not-false _ (c .before .before .before .before .before .before .if2 .left) in
-    let told = c .before .before .before .before .enum-told .given .1 in (
-      laws.start-answer (g .request) (g .out .now) d t told (c .before .before .first-page .ensures .0),
-      laws.start-slice (g .request) (g .out .now) d t told (c .before .before .first-page .ensures .1),
-    )
+fill-asked : tie.Need-fill-requires
+fill-asked c κs =
+    let at = to-fill c in
+    let list = lawful at in
+    let r = entry list .args .request in
+    (list-lawful list, position-listed (selectionOf r) (r .position) (passed at), omega (arith, c .before .before .width-of .ensures))
 
-returns-4 : tie.Need-returns-4
-returns-4 c =
-    let g = c .before .before .before .before .before .before .before .before .before .before .before .before .args in
-    let d = sym (c .before .before .before .before .before .before .before .before .before .before .is-lawful-degree .ensures) ∙ not-false _ (c .before .before .before .before .before .before .before .before .before .if1 .left) in
-    let t = sym (c .before .before .before .before .before .before .before .before .is-lawful-top .ensures) ∙ not-false _ (c .before .before .before .before .before .before .before .if2 .left) in
-    let told = c .before .before .before .before .before .position .given .1 in (
-      laws.after-answer (g .request) (g .out .now) d t _ _ told (c .before .before .next-page .ensures .0),
-      laws.after-slice (g .request) (g .out .now) d t _ _ told (c .before .before .next-page .ensures .1),
-    )
+wrong-position : tie.Need-returns-4
+wrong-position c =
+    let judged = c .before .before .before in
+    let list = judged .before in
+    let g = entry list .args in
+    let verdict = sym (judged .check-position .ensures) ∙ c .before .refusal .given .1 in
+    laws.wrong-position (g .request) (g .out .now) (degree-lawful list) (top-lawful list) (position-decides (g .request .degree) (g .request .position) verdict)
+
+filled : tie.Need-returns-5
+filled c =
+    let asked = c .before .before .before in
+    let at = to-fill asked in
+    let list = lawful at in
+    let g = entry list .args in
+    let none = position-passes (g .request .degree) (g .request .position) (passed at) in
+    laws.page-filled (g .request) (g .out .now) (degree-lawful list) (top-lawful list) none (omega (arith, asked .before .before .width-of .ensures))
+    (c .before .before .fill .ensures)
 
 pub page-spec : {M : Type 1} → statement M
 page-spec =
     tie.close
-    (tie.spec (λ c κs. search needs) returns (λ c κs. search needs) returns-2 (λ c. search needs) first-page-requires (λ c. search needs)
-    next-page-requires (λ c. search needs) returns-3 (λ c. search needs) returns-4)
+    (tie.spec (λ c κs. search needs) wrong-degree (λ c κs. search needs) wrong-top degree-asked (λ c. search needs) (λ c. search needs)
+    (λ c κs. search needs) short-slice fill-asked wrong-position (λ c. search needs) filled)

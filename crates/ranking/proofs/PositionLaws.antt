@@ -1,0 +1,47 @@
+-- A position is refused as its pair is: the verdict tells which of its situations decides, or that none applies; then it is the start or after a
+-- pair of the list. Assumes nothing.
+use mathlib.Core.Path.{_≡_, refl, sym, ap, _∙_}
+use Prim.Native.Nat.{ℕ}
+use native.Mathlib.Omega.{arith}
+use Rattle.definitions.specs.Answers.{unless}
+use Rattle.definitions.specs.Calls.{positionSituations}
+use Rattle.definitions.specs.declared.Refusal.{Refusal}
+use Rattle.definitions.specs.declared.Selection.{Selection}
+use Rattle.definitions.specs.declared.Position.{Position}
+use Rattle.definitions.specs.declared.Position.the-variants.{Start, After}
+use Rattle.answer_laws.specs.Unless.{Decides, NoneApplies, given-exactly, refused-exactly}
+use Rattle.fraction_laws.specs.WellFormed.{wellFormed-is}
+use Rattle.ranking_laws.specs.Met.{ruleOf}
+use Rattle.ranking_laws.specs.Reading.{ListedPosition, at-start, after-listed}
+use Rattle.generator.specs.Judging.{pairVerdict}
+use Rattle.generator.specs.Refusals.{passed-well-formed, passed-accepted}
+use Rattle.generator.specs.declared.pair.Verdict.{Verdict}
+use Rattle.generator.specs.declared.pair.Verdict.the-variants.{Refused, Passed}
+use Rattle.ranking.specs.Serve.{positionVerdict}
+
+module _ (m : ℕ) {at : Position} where
+  pub start-passes : at ≡ Start → Passed ≡ positionVerdict m at
+  unfolding positionVerdict positionSituations unless
+  start-passes e = rw e
+
+  pub pair-decides : {p q : ℕ} {v : Verdict} → at ≡ After p q → v ≡ pairVerdict m p q → v ≡ positionVerdict m at
+  unfolding positionVerdict positionSituations pairVerdict
+  pair-decides e h = rw e h
+
+never : (r : Refusal) → Refused r ≡ Passed → ⊥
+never r e = let z : _≡_ {A = ℕ} 0 1 = cc in omega arith
+
+module _ (m : ℕ) (at : Position) where
+  pub position-decides : {r : Refusal} → positionVerdict m at ≡ Refused r → Decides r (positionSituations m at)
+  unfolding positionVerdict
+  position-decides {r} = refused-exactly Refused Passed (positionSituations m at) r (λ e. never r (sym e)) (λ k e. cc) .0
+
+  pub position-passes : positionVerdict m at ≡ Passed → NoneApplies (positionSituations m at)
+  unfolding positionVerdict
+  position-passes = given-exactly Refused Passed (positionSituations m at) never .0
+
+pub position-listed : (l : Selection) (at : Position) → positionVerdict (l .degree) at ≡ Passed → ListedPosition (ruleOf l) at
+unfolding positionVerdict positionSituations pairVerdict
+position-listed l Start e = at-start
+position-listed l (After p q) e =
+    after-listed (wellFormed-is (l .degree) p q .1 (passed-well-formed (l .degree) p q e)) (passed-accepted (l .degree) p q e)
