@@ -1,15 +1,21 @@
 -- What C asks of a list: a page from a position, and the row at a place of its body. Assumes nothing.
 use mathlib.Core.List.{List}
 use Prim.Native.Nat.{ℕ}
+use Rattle.definitions.specs.Calls.{pageRequest}
 use Rattle.definitions.specs.Catalogue.{nextRow, nextPlace}
 use Rattle.definitions.specs.declared.Position.{Position}
+use Rattle.definitions.specs.declared.Selection.{Selection}
 use Rattle.definitions.specs.declared.PageRequest.{PageRequest}
 use Rattle.results.specs.Results.{rowResult}
 use Rattle.results.specs.declared.catalogues.FenyurkaRow.{FenyurkaRow}
 use Rattle.interface.specs.declared.FenyurkaList.{FenyurkaList}
 
-abbrev pub pageRequest : FenyurkaList → Position → PageRequest
-pageRequest list position = record { degree = list .degree; top = list .top; position = position }
+-- The list that C means.
+abbrev pub listOf : FenyurkaList → Selection
+listOf list = record { degree = list .degree; top = list .top }
+
+abbrev pub pageOf : FenyurkaList → Position → PageRequest
+pageOf list position = pageRequest (listOf list) position
 
 -- The next row of the body and the place behind it.
 abbrev pub rowAtPlace : FenyurkaList → List ℕ → ℕ → FenyurkaRow

@@ -1,17 +1,13 @@
 // The public calls for C, as include/fenyurka.h declares them: structs go in and out by value, and only slices are behind pointers.
 // A result holds the refusal's number, 0 where there is none, and the values, 0 where there are none. A refusal writes into no slice.
 ghost use mathlib.Core.Path.{_≡_};
-ghost use Prim.Native.Nat.{_+_, _≤_};
-ghost use lib.ListN.{length};
 ghost use Rattle.definitions.specs.Answers.{judgementValues, uniformityValues, pageValues, pointsValues, openingValues};
 ghost use Rattle.definitions.specs.Calls.{judgement, uniformity, pageAnswer, pageSlice, pointsAnswer, pointsSlice};
-ghost use Rattle.definitions.specs.Catalogue.{contentsSize, entryAt, opening};
+ghost use Rattle.definitions.specs.Catalogue.{opening};
 ghost use Rattle.results.specs.Results.{judgementResult, tValueResult, pageResult, pointsResult, catalogueResult};
-ghost use Rattle.interface.specs.Requests.{pageRequest, rowAtPlace};
-ghost use Rattle.interface.specs.Located.{bodyOf, located};
-use catalogue::form;
+ghost use Rattle.interface.specs.Requests.{pageOf, rowAtPlace};
+ghost use Rattle.interface.specs.Located.{located};
 use catalogue::seek;
-use catalogue::seek::Sought;
 use definitions::PageRequest;
 use definitions::Position;
 use results::FenyurkaJudgement;
@@ -32,7 +28,7 @@ pub struct FenyurkaList {
 
 // The request for a page of a list from a position.
 fn page_request(list: FenyurkaList, position: Position) -> PageRequest
-    ensures { λ r. ⌜ r ≡ pageRequest list position ⌝ }
+    ensures { λ r. ⌜ r ≡ pageOf list position ⌝ }
 {
     PageRequest {
         degree: list.degree,
@@ -60,8 +56,8 @@ pub extern "C" fn fenyurka_t_value(degree: u32, p: u32, q: u32, dimension: u32) 
 // The first rows of a ranked list: how many, and whether a further row exists.
 #[no_mangle]
 pub extern "C" fn fenyurka_first_page(list: FenyurkaList, rows: &mut [u32]) -> FenyurkaPage
-    ensures { λ r. ⌜ r ≡ pageResult (pageValues (pageAnswer (pageRequest list Position.Start) (now (rows .entry)))) ⌝ }
-    ensures { λ r. ⌜ now (rows .exit) ≡ pageSlice (pageRequest list Position.Start) (now (rows .entry)) ⌝ }
+    ensures { λ r. ⌜ r ≡ pageResult (pageValues (pageAnswer (pageOf list Position.Start) (now (rows .entry)))) ⌝ }
+    ensures { λ r. ⌜ now (rows .exit) ≡ pageSlice (pageOf list Position.Start) (now (rows .entry)) ⌝ }
 {
     results::page(ranking::page(page_request(list, Position::Start), rows))
 }
@@ -74,8 +70,8 @@ pub extern "C" fn fenyurka_page_after(
     q: u32,
     rows: &mut [u32],
 ) -> FenyurkaPage
-    ensures { λ r. ⌜ r ≡ pageResult (pageValues (pageAnswer (pageRequest list (Position.After p q)) (now (rows .entry)))) ⌝ }
-    ensures { λ r. ⌜ now (rows .exit) ≡ pageSlice (pageRequest list (Position.After p q)) (now (rows .entry)) ⌝ }
+    ensures { λ r. ⌜ r ≡ pageResult (pageValues (pageAnswer (pageOf list (Position.After p q)) (now (rows .entry)))) ⌝ }
+    ensures { λ r. ⌜ now (rows .exit) ≡ pageSlice (pageOf list (Position.After p q)) (now (rows .entry)) ⌝ }
 {
     results::page(ranking::page(page_request(list, Position::After(p, q)), rows))
 }
@@ -103,27 +99,12 @@ pub extern "C" fn fenyurka_open(file: &[u8]) -> FenyurkaCatalogue
     catalogues::catalogue(catalogue::open(file))
 }
 
-// The body of entry i.
-fn entry_body(file: &[u8], i: usize) -> FenyurkaBody
-    requires { ⌜ contentsSize (i + 1) ≤ length (now file) ⌝ }
-    ensures { λ r. ⌜ r ≡ bodyOf (entryAt (now (file .entry)) i) ⌝ }
-{
-    let top = form::entry_top(file, i);
-    let rows = form::entry_rows(file, i);
-    let offset = form::entry_offset(file, i) as usize;
-    let length = form::body_size(file, i);
-    catalogues::body(top, rows, offset, length, top as usize + 4)
-}
-
 // A degree's body: its top dimension and row count, where it lies in the file, and how many bytes it and a row of it have.
 #[no_mangle]
 pub extern "C" fn fenyurka_lookup(file: &[u8], degree: u32) -> FenyurkaBody
     ensures { λ r. ⌜ r ≡ located (now (file .entry)) degree ⌝ }
 {
-    match seek::seek(file, degree) {
-        Sought::At(i) => entry_body(file, i),
-        Sought::Missing(refusal) => catalogues::no_body(refusal),
-    }
+    catalogues::body(seek::locate(file, degree))
 }
 
 // The row at a place of a body and the place behind it, or the end.
@@ -133,6 +114,10 @@ pub extern "C" fn fenyurka_row(list: FenyurkaList, body: &[u8], place: usize) ->
 {
     let degree = list.degree;
     let top = list.top;
-    let next = catalogue::place_behind(body, degree, top, place);
-    catalogues::row(catalogue::row_at(body, degree, top, place), top, next)
+    let next = catalogue_reader::place_behind(body, degree, top, place);
+    catalogues::row(
+        catalogue_reader::row_at(body, degree, top, place),
+        top,
+        next,
+    )
 }

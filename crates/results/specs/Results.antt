@@ -4,10 +4,12 @@ use mathlib.Core.List.{List, [], _∷_}
 use Prim.Native.Nat.{ℕ, _+_}
 use lib.ListN.{getD}
 use Rattle.definitions.specs.Answers.{refusalNumber}
-use Rattle.definitions.specs.declared.Refusal.{Refusal}
 use Rattle.definitions.specs.declared.Row.{Row}
 use Rattle.definitions.specs.declared.NextRow.{NextRow}
 use Rattle.definitions.specs.declared.NextRow.the-variants.{Found, End}
+use Rattle.catalogue.specs.declared.seek.BodyPlace.{BodyPlace}
+use Rattle.catalogue.specs.declared.seek.Located.{Located}
+use Rattle.catalogue.specs.declared.seek.Located.the-variants.{At, Missing}
 use Rattle.results.specs.declared.FenyurkaJudgement.{FenyurkaJudgement}
 use Rattle.results.specs.declared.FenyurkaTValue.{FenyurkaTValue}
 use Rattle.results.specs.declared.FenyurkaPage.{FenyurkaPage}
@@ -35,12 +37,10 @@ pointsResult values = record { refusal = value values 0; count = value values 1 
 abbrev pub catalogueResult : List ℕ → FenyurkaCatalogue
 catalogueResult values = record { refusal = value values 0; entries = value values 1 }
 
--- A body by its numbers: T and rows; its place in the file, its length and the size of a row.
-abbrev pub bodyResult : ℕ → ℕ → ℕ → ℕ → ℕ → FenyurkaBody
-bodyResult top rows offset length size = record { refusal = 0; top = top; rows = rows; offset = offset; length = length; «row_size» = size }
-
-abbrev pub noBody : Refusal → FenyurkaBody
-noBody r = record { refusal = refusalNumber r; top = 0; rows = 0; offset = 0; length = 0; «row_size» = 0 }
+-- A body: T and rows; its place in the file, its length and the size of a row.
+abbrev pub bodyResult : Located → FenyurkaBody
+bodyResult (At b) = record { refusal = 0; top = b .top; rows = b .rows; offset = b .offset; length = b .size; «row_size» = b .stride }
+bodyResult (Missing r) = record { refusal = refusalNumber r; top = 0; rows = 0; offset = 0; length = 0; «row_size» = 0 }
 
 -- p, q, σ, t(3) .. t(8).
 abbrev pub rowNumbers : Row → List ℕ

@@ -1,13 +1,10 @@
 // Answers about catalogues as structs: an opening, a degree's body, a row of one.
+use catalogue::seek::Located;
 use definitions::NextRow;
 use definitions::Opening;
-use definitions::Refusal;
 ghost use mathlib.Core.Path.{_≡_};
 ghost use Rattle.definitions.specs.Answers.{openingValues};
-ghost use Rattle.results.specs.Results.{catalogueResult, bodyResult, noBody, rowResult};
-
-// The most numbers that a row has.
-const LONGEST_ROW: usize = 9;
+ghost use Rattle.results.specs.Results.{catalogueResult, bodyResult, rowResult};
 
 // How many degrees a catalogue has.
 #[repr(C)]
@@ -42,29 +39,26 @@ pub struct FenyurkaBody {
     pub row_size: usize,
 }
 
-pub fn body(top: u32, rows: u32, offset: usize, length: usize, row_size: usize) -> FenyurkaBody
-    ensures { λ r. ⌜ r ≡ bodyResult top rows offset length «row_size» ⌝ }
+pub fn body(answer: Located) -> FenyurkaBody
+    ensures { λ r. ⌜ r ≡ bodyResult answer ⌝ }
 {
-    FenyurkaBody {
-        refusal: 0,
-        top,
-        rows,
-        offset,
-        length,
-        row_size,
-    }
-}
-
-pub fn no_body(refusal: Refusal) -> FenyurkaBody
-    ensures { λ r. ⌜ r ≡ noBody refusal ⌝ }
-{
-    FenyurkaBody {
-        refusal: answers::refusal_number(refusal),
-        top: 0,
-        rows: 0,
-        offset: 0,
-        length: 0,
-        row_size: 0,
+    match answer {
+        Located::At(found) => FenyurkaBody {
+            refusal: 0,
+            top: found.top,
+            rows: found.rows,
+            offset: found.offset,
+            length: found.size,
+            row_size: found.stride,
+        },
+        Located::Missing(refusal) => FenyurkaBody {
+            refusal: answers::refusal_number(refusal),
+            top: 0,
+            rows: 0,
+            offset: 0,
+            length: 0,
+            row_size: 0,
+        },
     }
 }
 
@@ -73,7 +67,7 @@ pub fn no_body(refusal: Refusal) -> FenyurkaBody
 pub struct FenyurkaRow {
     pub count: usize,
     pub next: usize,
-    pub numbers: [u32; LONGEST_ROW],
+    pub numbers: [u32; limits::LONGEST_ROW],
 }
 
 pub fn row(answer: NextRow, top: u32, next: usize) -> FenyurkaRow
@@ -98,7 +92,7 @@ pub fn row(answer: NextRow, top: u32, next: usize) -> FenyurkaRow
         NextRow::End => FenyurkaRow {
             count: 0,
             next,
-            numbers: [0; LONGEST_ROW],
+            numbers: [0; limits::LONGEST_ROW],
         },
     }
 }
