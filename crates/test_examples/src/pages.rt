@@ -3,8 +3,8 @@ use crate::print::count;
 use crate::print::number;
 use crate::print::text;
 use definitions::PageAnswer;
-use definitions::PageRequest;
 use definitions::Position;
+use definitions::Selection;
 
 fn numbers(slice: &[u32]) {
     let mut i = 0;
@@ -18,11 +18,8 @@ fn numbers(slice: &[u32]) {
 
 // The answer, and what the slice holds afterwards.
 fn asked(position: Position, slice: &mut [u32]) {
-    let request = PageRequest {
-        degree: 3,
-        top: 4,
-        position,
-    };
+    let list = Selection { degree: 3, top: 4 };
+    let request = ranking::request(list, position);
     match ranking::page(request, slice) {
         PageAnswer::Page(rows, further) => {
             text(b" rows ");
