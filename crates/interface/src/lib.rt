@@ -10,6 +10,7 @@ ghost use Rattle.interface.specs.Located.{located};
 use catalogue::seek;
 use definitions::PageRequest;
 use definitions::Position;
+use definitions::Selection;
 use results::FenyurkaJudgement;
 use results::FenyurkaPage;
 use results::FenyurkaPoints;
@@ -30,11 +31,11 @@ pub struct FenyurkaList {
 fn page_request(list: FenyurkaList, position: Position) -> PageRequest
     ensures { λ r. ⌜ r ≡ pageOf list position ⌝ }
 {
-    PageRequest {
+    let selected = Selection {
         degree: list.degree,
         top: list.top,
-        position,
-    }
+    };
+    ranking::request(selected, position)
 }
 
 // The step of a pair.
