@@ -4,7 +4,7 @@
 use mathlib.Core.Path.{_≡_, refl, sym, ap}
 use mathlib.Core.Bool.{Bool, true, false, cond}
 use mathlib.Core.List.{List, [], _∷_, map, List·Memᴰ, List·Memᴰ·head, List·Memᴰ·tail, List·Memᴰ·not-nil, Memᴰ·cast, List·Nodup}
-use Prim.Native.Nat.{ℕ, zero, suc}
+use Prim.Native.Nat.{ℕ, zero, suc, _+_}
 use native.Mathlib.Omega.{arith}
 use lib.ListN.{length, take}
 use lib.Seq.{take-take}
@@ -105,6 +105,15 @@ module _ {X : Type 0} (key : X → List ℕ) where
   pub sort-out : (rs : List X) → Within (sort key rs) rs
   unfolding sort
   sort-out rs = insertAll-out [] rs rs (λ x i. absurd (List·Memᴰ·not-nil i)) (λ x i. i)
+
+  insertAll-length : (acc rs : List X) → length (insertAll key acc rs) ≡ length acc + length rs
+  unfolding insertAll
+  insertAll-length acc [] = omega arith
+  insertAll-length acc (r ∷ rs) = omega (arith, insertAll-length (insert key r acc) rs, put-length (insert-put r acc))
+
+  pub sort-length : (rs : List X) → length (sort key rs) ≡ length rs
+  unfolding sort
+  sort-length rs = omega (arith, insertAll-length [] rs)
 
   insertAll-in : (acc rs : List X) → Within acc (insertAll key acc rs) × Within rs (insertAll key acc rs)
   unfolding insertAll

@@ -3,14 +3,16 @@
 use mathlib.Core.Path.{_≡_, refl, sym, _∙_}
 use mathlib.Core.Bool.{true}
 use mathlib.Core.List.{List, List·Memᴰ, List·Nodup}
-use Prim.Native.Nat.{ℕ, _≤_}
+use Prim.Native.Nat.{ℕ, _^_, _≤_}
+use lib.ListN.{length}
 use Rattle.definitions.specs.declared.Selection.{Selection}
 use Rattle.definitions.specs.Generator.{Pair, accepted, wellFormed, tree}
 use Rattle.definitions.specs.Pages.{start, sort}
 use Rattle.definitions.specs.Ranking.{leastTop, rowWidth, row, rowKey, listedPairs, ranked}
 use Rattle.page_laws.specs.Ascending.{Ascends}
 use Rattle.page_laws.specs.Rows.{Wide}
-use Rattle.ranking_laws.specs.Rule.{metBy, rankedBy, ListedRow, rankedBy-ascends, rankedBy-once, rankedBy-wide, rankedBy-in, rankedBy-out, tree-rankedBy}
+use Rattle.ranking_laws.specs.Rule.{metBy, rankedBy, ListedRow, rankedBy-ascends, rankedBy-once, rankedBy-wide, rankedBy-in, rankedBy-out}
+use Rattle.ranking_laws.specs.Rule.{rankedBy-few, tree-rankedBy}
 use Rattle.ranking_laws.specs.Met.{ruleOf, width-is, met}
 
 -- A row of the ranked list, with its pair: well-formed, accepted, and the row is its.
@@ -37,6 +39,10 @@ module _ (l : Selection) where
 
   pub ranked-out : (r : List ℕ) → List·Memᴰ r (ranked l) → RankedRow l r
   ranked-out r i = rankedBy-out (ruleOf l) r (rw ranked-is at i)
+
+  -- There are no more rows than pairs in the tree.
+  pub ranked-few : 1 ≤ l .degree → length (ranked l) ≤ 2 ^ l .degree
+  ranked-few h = rw ranked-is (rankedBy-few (ruleOf l) h)
 
   -- The rows met on the tree, sorted, are the ranked list.
   pub tree-ranked : 1 ≤ l .degree → sort rowKey (met l (tree (l .degree))) ≡ ranked l

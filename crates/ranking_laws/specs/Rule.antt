@@ -4,7 +4,7 @@
 use mathlib.Core.Path.{_≡_, refl, sym, ap, _∙_}
 use mathlib.Core.Bool.{Bool, true, false}
 use mathlib.Core.List.{List, [], _∷_, _++_, map, List·Memᴰ, List·Nodup, map-map, Memᴰ·map, Memᴰ·of-map, Memᴰ·cast}
-use Prim.Native.Nat.{ℕ, _+_, _≤_}
+use Prim.Native.Nat.{ℕ, _+_, _^_, _≤_}
 use native.Mathlib.Omega.{arith}
 use lib.ListN.{length, drop}
 use lib.Seq.{drop-at}
@@ -14,11 +14,11 @@ use Rattle.definitions.specs.Pages.{start, sort}
 use Rattle.definitions.specs.Ranking.{ranksFrom, rowKey, allPairs}
 use Rattle.number_laws.specs.Truth.{by-test}
 use Rattle.number_laws.specs.Lists.{keep-in, keep-out, keep-once, map-once}
-use Rattle.fraction_laws.specs.Tree.{tree-sound, tree-complete, tree-once}
+use Rattle.fraction_laws.specs.Tree.{tree-sound, tree-complete, tree-once, tree-count}
 use Rattle.order_laws.specs.Accepted.{accepted-is}
 use Rattle.page_laws.specs.Members.{Within}
 use Rattle.page_laws.specs.Ascending.{Ascends, ascends-once}
-use Rattle.page_laws.specs.Insertion.{sort-in, sort-out, sort-ascends, sort-same}
+use Rattle.page_laws.specs.Insertion.{sort-in, sort-out, sort-length, sort-ascends, sort-same}
 use Rattle.page_laws.specs.Rows.{Wide}
 use Rattle.ranking_laws.specs.Pairs.{allPairs-in, allPairs-out, allPairs-once}
 
@@ -167,3 +167,9 @@ module _ (k : Rule) where
       (metBy-within (tree m) (allPairs m) (λ s i t. allPairs-in m s (tree-sound m s h i .well-formed)))
       (metBy-within (allPairs m) (tree m)
       (λ s i t. tree-complete m s (record { well-formed = allPairs-out m s i; quotients = accepted-is m (s .p) (s .q) .0 (k .only-accepted s t) .linear })))
+
+  -- There are no more rows than pairs in the tree.
+  pub rankedBy-few : 1 ≤ k .degree → length (rankedBy k) ≤ 2 ^ k .degree
+  rankedBy-few h =
+      let m = k .degree in
+      rw (← tree-rankedBy h, sort-length) (omega (arith, metBy-length (tree m), tree-count m))

@@ -4,11 +4,18 @@ use borrow.Author.Needs.{needs}
 use Rattle.insertion.proofs.rows.pair_before.Statement.{statement}
 use Rattle.insertion.proofs.rows.pair_before.Tie as tie
 
+-- What is known at entry, where p differs and where it is the same.
+abbrev entry-apart : tie.Then1 → tie.Start
+entry-apart c = c .before .before .before .before .before
+
+abbrev entry-same : tie.Else1 → tie.Start
+entry-same c = c .before .before .before .before .before
+
 p-decides : tie.Need-returns
-p-decides c = laws.pair-differ _ _ _ _ (c .before .before .before .before .before .pre) (c .if1 .taken)
+p-decides c = laws.pair-differ _ _ _ _ (entry-apart c .pre) (c .if1 .taken)
 
 q-decides : tie.Need-returns-2
-q-decides c = laws.pair-same _ _ _ _ (c .before .before .before .before .before .pre) (c .if1 .left)
+q-decides c = laws.pair-same _ _ _ _ (entry-same c .pre) (c .if1 .left)
 
 pub pair-before-spec : {M : Type 1} → statement M
 pair-before-spec =

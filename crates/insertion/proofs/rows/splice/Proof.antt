@@ -8,11 +8,13 @@ use Rattle.insertion.proofs.rows.splice.Tie as tie
 abbrev entry : tie.After-shift → tie.Start
 entry c = c .before .before .before .before
 
+abbrev shifted : tie.After-slice-known3 → tie.After-shift
+shifted c = c .before .before .before .before .before .before
+
 put-in : tie.Need-returns
 put-in c =
-    let shifted = c .before .before .before .before .before .before in
-    let g = entry shifted .args in
-    rw (c .before .before .write-row .ensures, shifted .shift .ensures)
+    let g = entry (shifted c) .args in
+    rw (c .before .before .write-row .ensures, shifted c .shift .ensures)
     (laws.shifted-written (g .from) (g .to) (g .width) (g .row .now) (g .out .now) (omega arith) (omega arith))
 
 pub splice-spec : {M : Type 1} → statement M
