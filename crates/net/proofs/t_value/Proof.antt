@@ -14,19 +14,31 @@ use Rattle.net.proofs.t_value.Statement.{statement}
 use Rattle.net.proofs.t_value.Tie as tie
 
 -- ---- what each test has told
-degree-passed : (c : tie.Else1) → lawfulDegree (c .before .before .args .degree) ≡ true
+abbrev degree-at : tie.Else1 → tie.Start
+degree-at c = c .before .before
+
+abbrev dimension-at : tie.Else2 → tie.Else1
+dimension-at c = c .before .before
+
+abbrev pair-at : tie.Else3 → tie.Else2
+pair-at c = c .before .before
+
+degree-passed : (c : tie.Else1) → lawfulDegree (degree-at c .args .degree) ≡ true
 degree-passed c = sym (c .before .is-lawful-degree .ensures) ∙ not-false _ (c .if1 .left)
 
-dimension-passed : (c : tie.Else2) → lawfulDimension (c .before .before .before .before .args .dimension) ≡ true
+dimension-passed : (c : tie.Else2) → lawfulDimension (degree-at (dimension-at c) .args .dimension) ≡ true
 dimension-passed c = sym (c .before .is-lawful-dimension .ensures) ∙ not-false _ (c .if2 .left)
 
-pair-passed : (c : tie.Else3) → let a = c .before .before .before .before .before .before .args in wellFormed (a .degree) (a .p) (a .q) ≡ true
+abbrev passed : tie.Else3 → tie.Start
+passed c = degree-at (dimension-at (pair-at c))
+
+pair-passed : (c : tie.Else3) → wellFormed (passed c .args .degree) (passed c .args .p) (passed c .args .q) ≡ true
 pair-passed c = sym (c .before .is-well-formed .ensures) ∙ not-false _ (c .if3 .left)
 
-lawful : (c : tie.Else1) → LawfulDegree (c .before .before .args .degree)
+lawful : (c : tie.Else1) → LawfulDegree (degree-at c .args .degree)
 lawful c = lawfulDegree-is _ .0 (degree-passed c)
 
-formed : (c : tie.Else3) → let a = c .before .before .before .before .before .before .args in WellFormed (a .degree) (a .p) (a .q)
+formed : (c : tie.Else3) → WellFormed (passed c .args .degree) (passed c .args .p) (passed c .args .q)
 formed c = wellFormed-is _ _ _ .0 (pair-passed c)
 
 -- ---- the answers
@@ -61,6 +73,6 @@ t-value-spec =
     returns-2
     (λ c κs. lawful (c .before .before))
     returns-3
-    (λ c κs. (lawful (c .before .before .before .before), formed c))
+    (λ c κs. (lawful (dimension-at (pair-at c)), formed c))
     t-at-requires
     returns-4)

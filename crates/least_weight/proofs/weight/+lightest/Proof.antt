@@ -88,10 +88,19 @@ module _ (t : ℕ) where
       (v .before .before .before .if1 .left) (v .before .before .if2 .left) (v .reduce .ensures) (lowered r) (bounds r .room)
       _ (c .lightest .result) (c .before .before .before .if3 .taken) (c .lightest .ensures)
 
-  -- ---- the digit row is taken
+  -- ---- the digit row is taken: the next one, what follows it, and then the coordinate below
+  abbrev before-next : lts.After-times-x claims Entry reads.Post → Reduced
+  before-next c = c .before .before
+
+  abbrev next-of : lts.After-lightest2 claims Entry reads.Post → lts.After-times-x claims Entry reads.Post
+  next-of c = c .before .before
+
+  abbrev taken-of : lts.After-lightest-arg3 claims Entry reads.Post → lts.After-lightest2 claims Entry reads.Post
+  taken-of c = c .before .before
+
   lightest-requires-2 : lts.Need-lightest-requires-2 claims Entry reads.Post
   lightest-requires-2 c κs =
-      let r = c .before .before .before in
+      let r = before-next (c .before) in
       let next = c .before .times-x .ensures .1 in
       let less = lowered r in
       let long = sized r in
@@ -99,22 +108,22 @@ module _ (t : ℕ) where
 
   lightest-requires-3 : lts.Need-lightest-requires-3 claims Entry reads.Post
   lightest-requires-3 c κs =
-      let taken = c .before .before .lightest2 .ensures in
-      let r = c .before .before .before .before .before .before in
+      let taken = taken-of c .lightest2 .ensures in
+      let r = before-next (next-of (taken-of c)) in
       let kept = taken .sized ∙ length-set (at r .args .basis .now) _ _ ∙ sized r in
       (omega arith, (modulus r, (first-below r, (residues r, (bounds-below (bounds r) (omega (arith, lowered r, taken .less)), kept)))))
 
   returns-4 : lts.Need-returns-4 claims Entry reads.Post
   returns-4 c =
-      let taken = c .before .before .before .lightest2 in
-      let next = c .before .before .before .before .before .times-x in
-      let r = c .before .before .before .before .before .before .before in
+      let taken = taken-of (c .before) in
+      let next = next-of taken in
+      let r = before-next next in
       let v = r .before in
       let a = at r .args in
       followed (a .p) (a .powers .now) (a .bound) (a .coordinate) (a .digits) (a .taken) (a .basis .now) (a .least) (v .reduce .result) (r .lesser .result)
       (v .before .before .before .if1 .left) (v .before .before .if2 .left) (v .reduce .ensures) (lowered r) (bounds r .room)
-      _ _ (next .result) (taken .result) (c .lightest3 .result) (next .ensures .0) (omega (arith, bounds r .room, sized r)) (taken .ensures)
-      (c .lightest3 .ensures)
+      _ _ (next .times-x .result) (taken .lightest2 .result) (c .lightest3 .result) (next .times-x .ensures .0) (omega (arith, bounds r .room, sized r))
+      (taken .lightest2 .ensures) (c .lightest3 .ensures)
 
 pub +lightest-spec : {M : Type 1} → statement M
 +lightest-spec =

@@ -107,21 +107,24 @@ next-t-requires-2 c κs =
 abbrev Turn : Type 0
 Turn = tie.After-next-t2 Invariant measure
 
+abbrev tested : Turn → tie.In-loop Invariant measure
+tested c = c .before .before
+
 abbrev loop : Turn → tie.At-loop Invariant measure
-loop c = c .before .before .before
+loop c = tested c .before
 
 abbrev row : Turn → List ℕ
 row c = set (loop c .loop .row) (loop c .loop .s) (c .next-t2 .result)
 
 fits : (c : Turn) → loop c .loop .s < length (loop c .loop .row)
-fits c = omega (arith, inside (c .before .before), lawful (wide (loop c)) .top .high, written (loop c) .sized)
+fits c = omega (arith, inside (tested c), lawful (wide (loop c)) .top .high, written (loop c) .sized)
 
 more : (c : Turn) → let a = at (wide (loop c)) .args in Written (a .f .list) (a .p) (a .q) (row c) (c .next-t2 .result) (loop c .loop .s + 1)
 more c =
     let l = loop c in
     let a = at (wide l) .args in
     let s = l .loop .s in
-    let i = inside (c .before .before) in
+    let i = inside (tested c) in
     let known = written l in
     let value = c .next-t2 .ensures in
     let length-b = begun-length (a .f .list) (a .p) (a .q) (lawful (wide l) .top .low) in
@@ -203,14 +206,14 @@ weigh-spec =
     next-t-requires-2
     (λ c. search needs)
     (λ c. omega (arith, fits c))
-    (λ c. omega (arith, inside (c .before .before)))
+    (λ c. omega (arith, inside (tested c)))
     is-low-requires
     (λ c. kept-length (low-turn (c .before)))
     returns
     is-high-requires
     (λ c. kept-length (high-turn (c .before .before)))
     returns-2
-    (λ c. omega (arith, c .before .before .before .before .before .before .before .before .loop-test .taken))
+    (λ c. omega (arith, tested (high-turn (c .before .before)) .loop-test .taken))
     loop-again
     (λ c. written (c .before) .sized ∙ sym (sized (wide (c .before))))
     returns-3)
