@@ -1,13 +1,12 @@
 -- Where a degree's body lies in a catalogue, or why a lookup is refused; the answers of a lookup are read off it.
 -- A lookup's answer is a function of where the body lies, refusals and all; a body that is found is within the file. Assumes nothing.
-use mathlib.Core.Path.{_≡_, refl, ap, _∙_}
-use mathlib.Core.Bool.{true, false}
+use mathlib.Core.Path.{_≡_, refl, ap}
 use mathlib.Core.List.{List, []}
 use Prim.Native.Nat.{ℕ, _+_, _*_, _≤_}
 use native.Mathlib.Omega.{arith}
 use lib.ListN.{length, take, drop}
 use Rattle.definitions.specs.Answers.{unless}
-use Rattle.definitions.specs.Catalogue.{Entry, bodySize, rowSize, looking, entryOf, entryAt, lookupNumbers, lookupPart, readerTop}
+use Rattle.definitions.specs.Catalogue.{Entry, bodySize, rowSize, looking, lookupNumbers, lookupPart, readerTop}
 use Rattle.definitions.specs.declared.Refusal.{Refusal}
 use Rattle.definitions.specs.declared.Lookup.{Lookup}
 use Rattle.definitions.specs.declared.Lookup.the-variants.{Body, NoBody}

@@ -4,7 +4,6 @@ use catalogue_bytes::sizes;
 ghost use mathlib.Core.Path.{_≡_};
 ghost use Prim.Native.Nat.{_+_, _≤_};
 ghost use lib.ListN.{length};
-ghost use Rattle.definitions.specs.Ranking.{largestTop};
 ghost use Rattle.definitions.specs.Catalogue.{byteAt, firstEntry, mostEntries, entryAt, behindEntry, behindEntries, bodySize, entryForm, entriesForm};
 ghost use Rattle.number_laws.specs.Bounds.{LawfulTop};
 ghost use Rattle.catalogue_form.specs.Entries.{asEntry};

@@ -1,6 +1,6 @@
 -- `catalogue::seek::entry_of` meets its contract. The invariant: no entry before `place` has the degree, so the search goes on with the `left` from
 -- there on, which are within the file. Assumes nothing.
-use mathlib.Core.Path.{_≡_, refl, sym, ap, _∙_}
+use mathlib.Core.Path.{_≡_, sym, ap, _∙_}
 use mathlib.Core.List.{List}
 use Prim.Native.Nat.{ℕ, _+_, _-_, _≤_}
 use native.Mathlib.Omega.{arith}

@@ -1,6 +1,7 @@
 -- `catalogue_form::entries::contents_end` meets its contract. The invariant: the place behind all entries is the one behind the `left` entries
 -- from `place` on, and there is room for these at ten bytes each. Assumes nothing.
 use mathlib.Core.Path.{_≡_, refl, sym, ap, _∙_}
+use mathlib.Core.List.{List}
 use Prim.Native.Nat.{ℕ, _+_, _-_, _*_, _≤_}
 use native.Mathlib.Omega.{arith}
 use borrow.Author.Needs.{needs}
@@ -24,19 +25,24 @@ loop-holds c = (omega arith, refl)
 size-most : (c : tie.After-entry-size RestEnds remaining) → c .entry-size .result ≤ 10
 size-most c = rw (c .entry-size .ensures) (entry-size-most _)
 
+abbrev turn-of : tie.After-entry-size RestEnds remaining → tie.At-loop RestEnds remaining
+turn-of c = c .before .before .before
+
+abbrev file : tie.At-loop RestEnds remaining → List ℕ
+file turn = turn .before .before .args .s .now
+
 next-is : (c : tie.After-entry-size RestEnds remaining)
-    → c .before .before .before .loop .place + c .entry-size .result
-    ≡ behindEntry (c .before .before .before .before .before .args .s .now) (c .before .before .before .loop .place)
+    → turn-of c .loop .place + c .entry-size .result ≡ behindEntry (file (turn-of c)) (turn-of c .loop .place)
 next-is c =
-    ap (λ (n : ℕ). c .before .before .before .loop .place + n) (c .entry-size .ensures ∙ ap entrySize (c .before .degree-at .ensures))
+    ap (λ (n : ℕ). turn-of c .loop .place + n) (c .entry-size .ensures ∙ ap entrySize (c .before .degree-at .ensures))
 
 add-place : tie.Need-add-place RestEnds remaining
 add-place c = omega (arith, size-most c)
 
 loop-again : tie.Need-loop-again RestEnds remaining
 loop-again c =
-    let turn = c .before .before .before in
-    let s = turn .before .before .args .s .now in
+    let turn = turn-of c in
+    let s = file turn in
     let l = turn .loop in
     (omega (arith, size-most c), l .inv .1 ∙ behind-on s (l .left) (l .place) (search needs) ∙ ap (behindEntries s (l .left - 1)) (sym (next-is c)))
 

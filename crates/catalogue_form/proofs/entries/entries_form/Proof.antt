@@ -8,7 +8,7 @@ use native.Mathlib.Omega.{arith}
 use lib.ListN.{length}
 use borrow.Author.Tests.{not-true, not-false}
 use borrow.Author.Needs.{needs}
-use Rattle.definitions.specs.Catalogue.{Entry, entryAt, firstEntry, behindEntry, behindEntries, bodySize, entryForm, entriesForm}
+use Rattle.definitions.specs.Catalogue.{Entry, firstEntry, behindEntry, behindEntries, bodySize, entryForm, entriesForm}
 use Rattle.catalogue_laws.specs.Form.{entry-tests, entry-within, behind-first, behind-on, behind-step, entries-end, entries-step, entries-stop}
 use Rattle.catalogue_form.specs.Entries.{asEntry}
 use Rattle.catalogue_form.proofs.entries.entries_form.Statement.{statement}

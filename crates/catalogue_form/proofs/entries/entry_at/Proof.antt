@@ -1,14 +1,13 @@
 -- `catalogue_form::entries::entry_at` meets its contract, field by field; the fields lie within the file, since the entry does.
 -- Assumes nothing.
-use mathlib.Core.Path.{_≡_, ap, ap₂, _∙_}
+use mathlib.Core.Path.{ap, _∙_}
 use Prim.Native.Nat.{ℕ, _+_, _≤_}
 use native.Mathlib.Omega.{arith}
 use lib.ListN.{length}
 use borrow.Author.Needs.{needs}
-use Rattle.definitions.specs.Catalogue.{byteAt, numberAt, countSize, offsetSize}
+use Rattle.definitions.specs.Catalogue.{byteAt, numberAt, offsetSize}
 use Rattle.catalogue_laws.specs.Sizes.{entry-size-least}
 use Rattle.catalogue_laws.specs.Form.{entry-at-is, entry-whole}
-use Rattle.catalogue_form.specs.Entries.{asEntry}
 use Rattle.catalogue_form.proofs.entries.entry_at.Statement.{statement}
 use Rattle.catalogue_form.proofs.entries.entry_at.Tie as tie
 

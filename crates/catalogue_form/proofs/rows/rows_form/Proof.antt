@@ -36,7 +36,8 @@ passes turn k =
 
 -- The body's size, as it is computed.
 sized : (c : tie.After-row-size FirstDecide remaining)
-    → c .before .before .args .rows * c .row-size .result ≡ c .before .before .args .rows * rowSize (c .before .before .args .degree) (c .before .before .args .top)
+    → c .before .before .args .rows * c .row-size .result
+    ≡ c .before .before .args .rows * rowSize (c .before .before .args .degree) (c .before .before .args .top)
 sized c = ap (λ (n : ℕ). c .before .before .args .rows * n) (c .row-size .ensures)
 
 -- Where the row of this turn lies.

@@ -1,5 +1,5 @@
 -- `catalogue_reader::rows::t_at` meets its contract: above T it is 0, and else the byte is one of the row's. Assumes nothing.
-use mathlib.Core.Path.{_≡_, sym, ap, _∙_}
+use mathlib.Core.Path.{sym, ap, _∙_}
 use Prim.Native.Nat.{ℕ, suc, _+_, _-_, _*_, _≤_}
 use native.Mathlib.Omega.{arith}
 use lib.ListN.{length}
@@ -15,7 +15,8 @@ abbrev start : tie.After-number-size → tie.Start
 start c = c .before .before .before
 
 -- The row's last byte lies within the body.
-whole : (c : tie.After-number-size) → start c .args .place + 3 * c .number-size .result + (suc (start c .args .top) - leastTop) ≤ length (start c .args .body .now)
+whole : (c : tie.After-number-size)
+    → start c .args .place + 3 * c .number-size .result + (suc (start c .args .top) - leastTop) ≤ length (start c .args .body .now)
 whole c =
     let a = start c .args in
     omega (arith, row-size-is (a .degree) (a .top), c .number-size .ensures .0, start c .pre .2)
