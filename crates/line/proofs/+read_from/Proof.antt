@@ -79,7 +79,7 @@ module _ (t : ℕ) where
       let place = room (found told .before) in
       one-read (a .i) (now (a .out)) place
       (place-last (now (a .line)) (a .from) (s .pre .1 .0) (found told .find .ensures) _ (wanted (a .i) _ place) (read told .read-word .ensures)
-      (told .before .n .given .1) (c .if2 .left))
+      (told .before .n .given .1) (omega (arith, c .if2 .left)))
 
   -- ---- with the others read
   abbrev told : lts.After-read-from claims Entry reads.Post → lts.After-known-told claims Entry reads.Post
@@ -99,7 +99,7 @@ module _ (t : ℕ) where
       let s = begun known in
       let a = s .args in
       place-more (now (a .line)) (a .from) (s .pre .1 .0) (found known .find .ensures) _ (wanted (a .i) _ (room (found known .before)))
-      (read known .read-word .ensures) (known .before .n .given .1) (c .before .before .if2 .taken)
+      (read known .read-word .ensures) (known .before .n .given .1) (omega (arith, c .before .before .if2 .taken))
 
   returns-3 : lts.Need-returns-3 claims Entry reads.Post
   returns-3 c =
