@@ -15,9 +15,8 @@ use Rattle.definitions.specs.Generator.{lawfulDegree, step}
 use Rattle.definitions.specs.Ranking.{lawfulTop, rowWidth, ranked}
 use Rattle.definitions.specs.Catalogue.{looking}
 use Rattle.definitions.specs.Net.{tValue}
-use Rattle.definitions.specs.Calls.{judging, judgement, measuring, uniformity, pageRequest, paging, pageRows, furtherRow, pageAnswer, pageSlice}
+use Rattle.definitions.specs.Calls.{judging, judgement, measuring, uniformity, paging, pageRows, furtherRow, pageAnswer, pageSlice}
 use Rattle.definitions.specs.Calls.{pointing, pointsAnswer, pointsSlice}
-use Rattle.definitions.specs.declared.Selection.{Selection}
 use Rattle.definitions.specs.declared.Position.{Position}
 use Rattle.definitions.specs.declared.Position.the-variants.{Start, After}
 use Rattle.definitions.specs.declared.PageRequest.{PageRequest}
@@ -33,6 +32,7 @@ use Rattle.results.specs.declared.FenyurkaJudgement.{FenyurkaJudgement}
 use Rattle.results.specs.declared.FenyurkaTValue.{FenyurkaTValue}
 use Rattle.results.specs.declared.FenyurkaPage.{FenyurkaPage}
 use Rattle.results.specs.declared.FenyurkaPoints.{FenyurkaPoints}
+use Rattle.interface.specs.Requests.{listOf, pageOf}
 use Rattle.interface.specs.Located.{located-values}
 use Rattle.interface.specs.declared.FenyurkaList.{FenyurkaList}
 use Rattle.interface.proofs.fenyurka_judge.Reads as c-judge
@@ -47,10 +47,6 @@ use Rattle.demands.specs.Contracts.{Calls, Faithful, faithful-whole}
 use Rattle.demands.specs.Demand1.{formSituation, opening-exact, looking-exact}
 use Rattle.demands.specs.Demand1.{Exact, numberOf, judging-exact, measuring-exact, paging-exact, pointing-exact}
 use Rattle.demands.specs.Demand2.{Conditions, accepted-exactly, uniformity-smallest}
-
--- The list that C means.
-abbrev pub selected : FenyurkaList → Selection
-selected list = record { degree = list .degree; top = list .top }
 
 -- ---- a result that says 0 holds the value
 
@@ -128,18 +124,18 @@ module _ (κs : _) (m p q s : ℕ) (r : _) (e : _) (h : c-t-value.Post κs (m, (
   c-t-value-smallest = result-smallest m p q s r h
 
 module _ (κs : _) (list : FenyurkaList) (rows : _) (r : _) (e : _) (h : c-first-page.Post κs (list, (rows, tt)) r e) where
-  pub c-first-page-exact : Exact (paging (pageRequest (selected list) Start) (now rows)) (r .refusal)
-  c-first-page-exact = rw (h .0) (paging-exact (pageRequest (selected list) Start) (now rows))
+  pub c-first-page-exact : Exact (paging (pageOf list Start) (now rows)) (r .refusal)
+  c-first-page-exact = rw (h .0) (paging-exact (pageOf list Start) (now rows))
 
   pub c-first-page-keeps : 0 < r .refusal → now (second e) ≡ now rows
-  c-first-page-keeps n = h .1 ∙ result-keeps (pageRequest (selected list) Start) (now rows) r (h .0) n
+  c-first-page-keeps n = h .1 ∙ result-keeps (pageOf list Start) (now rows) r (h .0) n
 
 module _ (κs : _) (list : FenyurkaList) (p q : ℕ) (rows : _) (r : _) (e : _) (h : c-page-after.Post κs (list, (p, (q, (rows, tt)))) r e) where
-  pub c-page-after-exact : Exact (paging (pageRequest (selected list) (After p q)) (now rows)) (r .refusal)
-  c-page-after-exact = rw (h .0) (paging-exact (pageRequest (selected list) (After p q)) (now rows))
+  pub c-page-after-exact : Exact (paging (pageOf list (After p q)) (now rows)) (r .refusal)
+  c-page-after-exact = rw (h .0) (paging-exact (pageOf list (After p q)) (now rows))
 
   pub c-page-after-keeps : 0 < r .refusal → now (fourth e) ≡ now rows
-  c-page-after-keeps n = h .1 ∙ result-keeps (pageRequest (selected list) (After p q)) (now rows) r (h .0) n
+  c-page-after-keeps n = h .1 ∙ result-keeps (pageOf list (After p q)) (now rows) r (h .0) n
 
 module _ (κs : _) (m p q first : ℕ) (words : _) (r : _) (e : _) (h : c-points.Post κs (m, (p, (q, (first, (words, tt))))) r e) where
   pub c-points-exact : Exact (pointing m p q first) (r .refusal)
@@ -164,14 +160,14 @@ pub data AskedFromC (list : FenyurkaList) : Position → List ℕ → ℕ → Bo
       → r .more ≡ bit further → AskedFromC list (After p q) (now rows) (r .count) further (now (fourth e))
 
 module _ (list : FenyurkaList) where
-  pub c-faithful : Faithful (selected list) (AskedFromC list)
-  c-faithful at s n further left (asked-first κs rows r e h z m) = (result-page (pageRequest (selected list) Start) (now rows) r (h .0) further z m, h .1)
+  pub c-faithful : Faithful (listOf list) (AskedFromC list)
+  c-faithful at s n further left (asked-first κs rows r e h z m) = (result-page (pageOf list Start) (now rows) r (h .0) further z m, h .1)
   c-faithful at s n further left (asked-after κs p q rows r e h z m) =
-      (result-page (pageRequest (selected list) (After p q)) (now rows) r (h .0) further z m, h .1)
+      (result-page (pageOf list (After p q)) (now rows) r (h .0) further z m, h .1)
 
   -- READ FROM C: the pages joined are the whole ranked list.
   module _ (degree : lawfulDegree (list .degree) ≡ true) (dimension : lawfulTop (list .top) ≡ true) (lent : ℕ → List ℕ) where
-    pub c-calls-whole : ((i : ℕ) → rowWidth (selected list) ≤ length (lent i)) → {ps : List (List (List ℕ))}
-        → Calls (rowWidth (selected list)) (AskedFromC list) lent Start 0 ps
-        → (length ps ≤ length (ranked (selected list)) + 1) × (join ps ≡ ranked (selected list))
-    c-calls-whole = faithful-whole (selected list) degree dimension lent c-faithful
+    pub c-calls-whole : ((i : ℕ) → rowWidth (listOf list) ≤ length (lent i)) → {ps : List (List (List ℕ))}
+        → Calls (rowWidth (listOf list)) (AskedFromC list) lent Start 0 ps
+        → (length ps ≤ length (ranked (listOf list)) + 1) × (join ps ≡ ranked (listOf list))
+    c-calls-whole = faithful-whole (listOf list) degree dimension lent c-faithful
