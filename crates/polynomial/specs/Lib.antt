@@ -1,6 +1,3 @@
 -- What the contracts cite, and its laws.
 pub mod Digits
 pub mod Modulus
-pub mod Residues
-pub mod Fractions
-pub mod Division

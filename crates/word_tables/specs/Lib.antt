@@ -1,5 +1,4 @@
 -- What the contracts cite, and the laws that the code's proofs cite.
-pub mod Word
 pub mod Spreading
 pub mod Tables
 pub mod Filling

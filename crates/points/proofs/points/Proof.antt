@@ -11,7 +11,7 @@ use Rattle.number_laws.specs.Bounds.{LawfulDegree, lawfulDegree-is, lead-low}
 use Rattle.generator.specs.Judging.{pairVerdict}
 use Rattle.generator.specs.Refusals.{passed-well-formed}
 use Rattle.generator.specs.declared.pair.Verdict.the-variants.{Passed}
-use Rattle.points.specs.Answering.{answered-unlawful, answered-pair, answered-beyond, answered-written, words-left}
+use Rattle.points.proofs.Answering.{answered-unlawful, answered-pair, answered-beyond, answered-written, words-left}
 use Rattle.points.proofs.points.Statement.{statement}
 use Rattle.points.proofs.points.Tie as tie
 

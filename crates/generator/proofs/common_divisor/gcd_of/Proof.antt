@@ -5,7 +5,7 @@ use native.Mathlib.Nat.{mod-lt}
 use native.Mathlib.Omega.{arith}
 use borrow.Author.Needs.{needs}
 use Rattle.definitions.specs.Number.{gcd}
-use Rattle.generator.specs.CommonDivisor.{gcd-zero, gcd-step}
+use Rattle.generator.proofs.CommonDivisor.{gcd-zero, gcd-step}
 use Rattle.generator.proofs.common_divisor.gcd_of.Statement.{statement}
 use Rattle.generator.proofs.common_divisor.gcd_of.Tie as tie
 

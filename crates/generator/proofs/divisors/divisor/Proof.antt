@@ -1,7 +1,7 @@
 -- `generator::divisors::divisor` meets its contract: the table's rule is one test over all of its places, which antt computes.
 -- Assumes nothing.
 use borrow.Author.Needs.{needs}
-use Rattle.generator.specs.DivisorTable.{flatTable, table-at}
+use Rattle.generator.proofs.DivisorTable.{flatTable, table-at}
 use Rattle.generator.proofs.divisors.divisor.Statement.{statement}
 use Rattle.generator.proofs.divisors.divisor.Tie as tie
 

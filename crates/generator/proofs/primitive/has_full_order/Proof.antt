@@ -14,7 +14,7 @@ use Rattle.order_laws.specs.Orbit.{coprimeStep-noneOf}
 use Rattle.order_laws.specs.State.{state-power}
 use Rattle.order_laws.specs.Table.{places}
 use Rattle.polynomial.specs.Modulus.{lawful-modulus}
-use Rattle.generator.specs.DivisorLoop.{noneIsOne, Testing, testing-start, testing-zero, testing-one, testing-other, testing-end}
+use Rattle.generator.proofs.DivisorLoop.{noneIsOne, Testing, testing-start, testing-zero, testing-one, testing-other, testing-end}
 use Rattle.generator.proofs.primitive.has_full_order.Statement.{statement}
 use Rattle.generator.proofs.primitive.has_full_order.Tie as tie
 

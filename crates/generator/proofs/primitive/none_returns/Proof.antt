@@ -9,7 +9,7 @@ use Rattle.definitions.specs.Generator.{period}
 use Rattle.number_laws.specs.Bounds.{lead-low}
 use Rattle.order_laws.specs.Table.{places}
 use Rattle.polynomial.specs.Modulus.{lawful-modulus}
-use Rattle.generator.specs.DivisorLoop.{Testing, testing-start, testing-zero, testing-one, testing-other, testing-end}
+use Rattle.generator.proofs.DivisorLoop.{Testing, testing-start, testing-zero, testing-one, testing-other, testing-end}
 use Rattle.generator.proofs.primitive.none_returns.Statement.{statement}
 use Rattle.generator.proofs.primitive.none_returns.Tie as tie
 

@@ -7,7 +7,7 @@ use Rattle.definitions.specs.Generator.{step}
 use Rattle.number_laws.specs.Bounds.{lead-low, lead-high}
 use Rattle.order_laws.specs.Step.{step-to}
 use Rattle.polynomial.specs.Modulus.{lawful-modulus}
-use Rattle.generator.specs.Finder.{At, at-start, at-found, at-before, at-next}
+use Rattle.generator.proofs.Finder.{At, at-start, at-found, at-before, at-next}
 use Rattle.generator.proofs.step.find_step.Statement.{statement}
 use Rattle.generator.proofs.step.find_step.Tie as tie
 

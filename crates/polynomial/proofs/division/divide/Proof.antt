@@ -9,7 +9,7 @@ use Rattle.polynomial_laws.specs.Sum.{zero-⊕}
 use Rattle.polynomial_laws.specs.Degree.{lt-of-shr}
 use Rattle.polynomial_laws.specs.Product.{zero-prod}
 use Rattle.polynomial_laws.specs.Division.{division-unique}
-use Rattle.polynomial.specs.Division.{Turn, turn, shift-positive, turn-less, turn-keeps}
+use Rattle.polynomial.proofs.DivisionLaws.{Turn, turn, shift-positive, turn-less, turn-keeps}
 use Rattle.polynomial.proofs.division.divide.Statement.{statement}
 use Rattle.polynomial.proofs.division.divide.Tie as tie
 

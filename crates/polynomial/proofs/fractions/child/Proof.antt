@@ -1,6 +1,6 @@
 -- `polynomial::fractions::child` meets its contract: x times p is its double, and x + 1 is the other quotient of degree one. Assumes nothing.
 use borrow.Author.Needs.{needs}
-use Rattle.polynomial.specs.Fractions.{child-by-x, child-by-other}
+use Rattle.polynomial.proofs.FractionLaws.{child-by-x, child-by-other}
 use Rattle.polynomial.proofs.fractions.child.Statement.{statement}
 use Rattle.polynomial.proofs.fractions.child.Tie as tie
 

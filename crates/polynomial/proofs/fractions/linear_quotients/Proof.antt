@@ -1,7 +1,7 @@
 -- `polynomial::fractions::linear_quotients` meets its contract. The invariant: the test of (a, b) is the test of (p, q), `lead_of_a` is the leading term
 -- of a, and b is below it. The measure is `lead_of_a`. Assumes nothing.
 use native.Mathlib.Omega.{arith}
-use Rattle.polynomial.specs.Fractions.{Run, run-start, run-end, run-refused, run-by-x, run-by-other}
+use Rattle.polynomial.proofs.FractionLaws.{Run, run-start, run-end, run-refused, run-by-x, run-by-other}
 use Rattle.polynomial.proofs.fractions.linear_quotients.Statement.{statement}
 use Rattle.polynomial.proofs.fractions.linear_quotients.Tie as tie
 

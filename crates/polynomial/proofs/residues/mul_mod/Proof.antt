@@ -7,7 +7,7 @@ use borrow.Author.Needs.{needs}
 use Rattle.definitions.specs.Polynomial.{_⊕_, prod, rem}
 use Rattle.polynomial_laws.specs.Digits.{lowest, digit-mul-le}
 use Rattle.polynomial_laws.specs.Sum.{zero-⊕}
-use Rattle.polynomial.specs.Residues.{product-more, product-done}
+use Rattle.polynomial.proofs.ResidueLaws.{product-more, product-done}
 use Rattle.polynomial.proofs.residues.mul_mod.Statement.{statement}
 use Rattle.polynomial.proofs.residues.mul_mod.Tie as tie
 

@@ -3,7 +3,7 @@
 use native.Mathlib.Omega.{arith}
 use lib.Count.{leading-le}
 use borrow.Author.Needs.{needs}
-use Rattle.polynomial.specs.Residues.{PowerAt, power-start, power-even, power-odd, x-factor, x-power-end}
+use Rattle.polynomial.proofs.ResidueLaws.{PowerAt, power-start, power-even, power-odd, x-factor, x-power-end}
 use Rattle.polynomial.proofs.residues.pow_x.Statement.{statement}
 use Rattle.polynomial.proofs.residues.pow_x.Tie as tie
 

@@ -2,7 +2,7 @@
 -- Assumes nothing.
 use native.Mathlib.Omega.{arith}
 use Rattle.polynomial.specs.Modulus.{lead-fits}
-use Rattle.polynomial.specs.Residues.{times-x-small, times-x-large}
+use Rattle.polynomial.proofs.ResidueLaws.{times-x-small, times-x-large}
 use Rattle.polynomial.proofs.residues.times_x.Statement.{statement}
 use Rattle.polynomial.proofs.residues.times_x.Tie as tie
 

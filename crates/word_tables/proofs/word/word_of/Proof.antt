@@ -6,7 +6,7 @@ use borrow.Author.Needs.{needs}
 use Rattle.definitions.specs.Points.{wordDigits}
 use Rattle.number_laws.specs.Bounds.{lead-high}
 use Rattle.polynomial.specs.Modulus.{lawful-modulus}
-use Rattle.word_tables.specs.Word.{Divided, divided-start, divided-more, divided-end, next-fits, rest-lt}
+use Rattle.word_tables.proofs.WordLaws.{Divided, divided-start, divided-more, divided-end, next-fits, rest-lt}
 use Rattle.word_tables.proofs.word.word_of.Statement.{statement}
 use Rattle.word_tables.proofs.word.word_of.Tie as tie
 

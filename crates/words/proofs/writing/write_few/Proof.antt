@@ -4,7 +4,7 @@ use Prim.Native.Nat.{_-_, _<_, _^_}
 use native.Mathlib.Omega.{arith}
 use borrow.Author.Needs.{needs}
 use Rattle.polynomial.specs.Modulus.{lawful-modulus}
-use Rattle.words.specs.Writing.{Writing, writing-start, writing-more, writing-done}
+use Rattle.words.proofs.WritingLaws.{Writing, writing-start, writing-more, writing-done}
 use Rattle.words.proofs.writing.write_few.Statement.{statement}
 use Rattle.words.proofs.writing.write_few.Tie as tie
 

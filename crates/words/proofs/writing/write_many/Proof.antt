@@ -7,7 +7,7 @@ use borrow.Author.Needs.{needs}
 use Rattle.number_laws.specs.Bounds.{lead-high}
 use Rattle.word_tables.specs.Tables.{size}
 use Rattle.word_tables.specs.Filling.{Filled, lower-unit, upper-unit, next-looked-up, next-small, word-looked-up}
-use Rattle.words.specs.Writing.{Writing, writing-start, writing-more, writing-done}
+use Rattle.words.proofs.WritingLaws.{Writing, writing-start, writing-more, writing-done}
 use Rattle.words.proofs.writing.write_many.Statement.{statement}
 use Rattle.words.proofs.writing.write_many.Tie as tie
 

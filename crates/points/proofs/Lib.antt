@@ -1,0 +1,2 @@
+-- What the proof of points cites.
+pub mod Answering

@@ -1,0 +1,4 @@
+-- What the proofs of this crate share.
+pub mod DivisionLaws
+pub mod FractionLaws
+pub mod ResidueLaws

@@ -1,0 +1,2 @@
+-- What the proofs of words and tables share.
+pub mod WordLaws

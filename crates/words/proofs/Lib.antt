@@ -1,0 +1,2 @@
+-- What the proofs of writing words share.
+pub mod WritingLaws
