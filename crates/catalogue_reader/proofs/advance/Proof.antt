@@ -124,4 +124,5 @@ unfolding code.routine
 advance-spec 𝓤 H 𝓜 𝓖 𝓡 =
     reader-walk-proves 𝓤 H 𝓜 𝓖 𝓡 code.env #advance code.function (code.unfolded 𝓤 H 𝓜 𝓡) Held (advance.clauses 𝓤 H (𝓖 .A) (𝓜 .mem) (𝓡 .run))
     (λ κs q d g. walk 𝓤 H (𝓖 .A) (givenOf 𝓤 H 𝓜 𝓖) (𝓜 .mem) (𝓡 .run) (κs .0) q d _ _ (calls-frame 𝓤 H 𝓜 𝓖 𝓡 code.env)
-    (cited 𝓤 H (PlaceBehind 𝓤 H (𝓖 .A)) 𝓜 𝓡 code.env place-behind.name place-behind.routine code.calls-catalogue-reader·place-behind (place-behind-thm.met 𝓤 H 𝓜 𝓖 𝓡)))
+    (cited 𝓤 H (PlaceBehind 𝓤 H (𝓖 .A)) 𝓜 𝓡 code.env place-behind.name place-behind.routine
+    code.calls-catalogue-reader·place-behind (place-behind-thm.met 𝓤 H 𝓜 𝓖 𝓡)))
