@@ -69,7 +69,8 @@ module _ {M : Type 1} (𝓤 : URA M) (H : Heap 𝓤) (𝓜 : Model 𝓤 H) (𝓖
   calls-frame = fmOf 𝓤 H (W .laws) (tablesOf 𝓤 H 𝓜 (tables 𝓤 H 𝓜 𝓡 env))
 
   module _ (key : Name) (code : Fn) (closed : Closed 𝓤 H calls loops key code) where
-    pub walk-proves : (T : Ended) (hs : Stays (T .signature .params) (T .kept)) → AllGo 𝓤 H (𝓖 .A) W (T .signature .lifetimes) (T .signature .params) (T .kept) hs
+    pub walk-proves : (T : Ended) (hs : Stays (T .signature .params) (T .kept))
+        → AllGo 𝓤 H (𝓖 .A) W (T .signature .lifetimes) (T .signature .params) (T .kept) hs
         → (c : Clauses 𝓤 T) → Walks 𝓤 H (𝓖 .A) T hs (WpFn 𝓤 H calls loops code) c
         → Triple 𝓤 (calls key) (tripleOf 𝓤 H (𝓖 .A) (T .signature) (closing 𝓤 H (𝓖 .A) T c))
     unfolding tablesOf
@@ -84,5 +85,7 @@ module _ {M : Type 1} (𝓤 : URA M) (H : Heap 𝓤) (𝓜 : Model 𝓤 H) (𝓖
         → Triple 𝓤 (calls key) (tripleOf 𝓤 H (𝓖 .A) (of-reader R .signature) (closing 𝓤 H (𝓖 .A) (of-reader R) c))
     reader-walk-proves R c walk =
         walk-proves (of-reader R) (has-reader R) (goes-none 𝓤 H (𝓖 .A) W 1 Held yes (λ κs x f. refl), tt) c
-        (walked 𝓤 H (𝓖 .A) (of-reader R) (has-reader R) c (WpFn 𝓤 H calls loops code) (λ κs. (LL.vals (Declares κs) (laws κs), tt)) (λ κs. (LL.tells (Declares κs) (laws κs), tt))
-        (λ κs qs bounds a g are. via 𝓤 _ (fst∗ 𝓤 _ (c κs a .requires g)) (walk κs (qs .0) (a .0) g (LL.lawful (Declares κs) (laws κs) 𝓤 H (𝓖 .A) W .typed (a .0) _ (are .0) .0))))
+        (walked 𝓤 H (𝓖 .A) (of-reader R) (has-reader R) c (WpFn 𝓤 H calls loops code)
+        (λ κs. (LL.vals (Declares κs) (laws κs), tt)) (λ κs. (LL.tells (Declares κs) (laws κs), tt))
+        (λ κs qs bounds a g are. via 𝓤 _ (fst∗ 𝓤 _ (c κs a .requires g))
+        (walk κs (qs .0) (a .0) g (LL.lawful (Declares κs) (laws κs) 𝓤 H (𝓖 .A) W .typed (a .0) _ (are .0) .0))))

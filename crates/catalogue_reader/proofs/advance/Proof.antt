@@ -38,8 +38,8 @@ use Rattle.definitions.proofs.Reader.Laws as T′
 use Rattle.catalogue_reader.proofs.Held.{Held, Declares, laws, local, with-room, fields, Whole, twice, of-fields, answer, gives, OnFields, to-fields}
 use Rattle.catalogue_reader.proofs.Held.{passed-on, answered}
 use Rattle.catalogue_reader.proofs.ByHand.{Begin, End, ends, calls-frame, reader-walk-proves}
-use Rattle.catalogue_reader.proofs.place_behind.Symbol as place-behind
-use Rattle.catalogue_reader.proofs.place_behind.Met as place-behind-thm
+use Rattle.catalogue_rows.proofs.place_behind.Symbol as place-behind
+use Rattle.catalogue_rows.proofs.place_behind.Met as place-behind-thm
 use Rattle.catalogue_reader.proofs.advance.Key.{name as #advance}
 use Rattle.catalogue_reader.proofs.advance as advance
 use Rattle.catalogue_reader.proofs.advance.Statement as stated
@@ -124,4 +124,5 @@ unfolding code.routine
 advance-spec 𝓤 H 𝓜 𝓖 𝓡 =
     reader-walk-proves 𝓤 H 𝓜 𝓖 𝓡 code.env #advance code.function (code.unfolded 𝓤 H 𝓜 𝓡) Held (advance.clauses 𝓤 H (𝓖 .A) (𝓜 .mem) (𝓡 .run))
     (λ κs q d g. walk 𝓤 H (𝓖 .A) (givenOf 𝓤 H 𝓜 𝓖) (𝓜 .mem) (𝓡 .run) (κs .0) q d _ _ (calls-frame 𝓤 H 𝓜 𝓖 𝓡 code.env)
-    (cited 𝓤 H (PlaceBehind 𝓤 H (𝓖 .A)) 𝓜 𝓡 code.env place-behind.name place-behind.routine code.calls-catalogue-reader·place-behind (place-behind-thm.met 𝓤 H 𝓜 𝓖 𝓡)))
+    (cited 𝓤 H (PlaceBehind 𝓤 H (𝓖 .A)) 𝓜 𝓡 code.env place-behind.name place-behind.routine
+    code.calls-catalogue-rows·place-behind (place-behind-thm.met 𝓤 H 𝓜 𝓖 𝓡)))

@@ -36,8 +36,8 @@ use Rattle.definitions.proofs.NextRow as S
 use Rattle.definitions.proofs.NextRow.Laws as S′
 use Rattle.catalogue_reader.proofs.Held.{local, with-room, fields, Whole, of-fields, answer, gives, OnFields, to-fields, passed-on, answered}
 use Rattle.catalogue_reader.proofs.ByHand.{Begin, End, ends, calls-frame, reader-walk-proves}
-use Rattle.catalogue_reader.proofs.row_at.Symbol as row-at
-use Rattle.catalogue_reader.proofs.row_at.Met as row-at-thm
+use Rattle.catalogue_rows.proofs.row_at.Symbol as row-at
+use Rattle.catalogue_rows.proofs.row_at.Met as row-at-thm
 use Rattle.catalogue_reader.proofs.next.Key.{name as #next}
 use Rattle.catalogue_reader.proofs.next as next
 use Rattle.catalogue_reader.proofs.next.Statement as stated
@@ -110,4 +110,4 @@ unfolding code.routine
 next-spec 𝓤 H 𝓜 𝓖 𝓡 =
     reader-walk-proves 𝓤 H 𝓜 𝓖 𝓡 code.env #next code.function (code.unfolded 𝓤 H 𝓜 𝓡) (λ _. S.the-row) (next.clauses 𝓤 H (𝓖 .A) (𝓜 .mem) (𝓡 .run))
     (λ κs q d g. walk 𝓤 H (𝓖 .A) (givenOf 𝓤 H 𝓜 𝓖) (𝓜 .mem) (𝓡 .run) (κs .0) q d _ _ (calls-frame 𝓤 H 𝓜 𝓖 𝓡 code.env)
-    (cited 𝓤 H (RowAt 𝓤 H (𝓖 .A)) 𝓜 𝓡 code.env row-at.name row-at.routine code.calls-catalogue-reader·row-at (row-at-thm.met 𝓤 H 𝓜 𝓖 𝓡)))
+    (cited 𝓤 H (RowAt 𝓤 H (𝓖 .A)) 𝓜 𝓡 code.env row-at.name row-at.routine code.calls-catalogue-rows·row-at (row-at-thm.met 𝓤 H 𝓜 𝓖 𝓡)))

@@ -134,7 +134,8 @@ module _ {M : Type 1} (𝓤 : URA M) (H : Heap 𝓤) (A : Atoms 𝓤) (W : Given
         (qed W ((‵ (flft κ q) ⊛ ‵ ftrue) ∷ ‵ (owns (Lent ∷ usize ∷ usize ∷ []) cut-args cut-passed) ∷ []) ∵ says ! (place .within) $ frame ! $ done !) $
         frame ! $ done !
 
-    cut-said : (r : RefT (List ℕ)) → ent 𝓤 (ensured 𝓤 H A cut.ended (cut.clauses 𝓤 H A mem run) κs cut-args tt r) (fact 𝓤 (now r ≡ take (b .size) (drop (b .offset) (now s))))
+    cut-said : (r : RefT (List ℕ))
+        → ent 𝓤 (ensured 𝓤 H A cut.ended (cut.clauses 𝓤 H A mem run) κs cut-args tt r) (fact 𝓤 (now r ≡ take (b .size) (drop (b .offset) (now s))))
     cut-said r = exE 𝓤 _ (λ ws. snd∗ 𝓤 (sem 𝓤 H A (lasts cut.ended κs cut-args ws)) (fact 𝓤 (now r ≡ take (b .size) (drop (b .offset) (now s)))))
 
   abbrev made : RefT (List ℕ) → ℕ → ℕ → Reader
@@ -234,10 +235,12 @@ unfolding code.routine
 reader-spec 𝓤 H 𝓜 𝓖 𝓡 =
     let A : Atoms 𝓤 = 𝓖 .A in
     let W : Given 𝓤 H A = givenOf 𝓤 H 𝓜 𝓖 in
-    let opened-known = cited 𝓤 H (Place 𝓤 H A (𝓜 .mem) (𝓡 .run)) 𝓜 𝓡 code.env #opened opened-def.routine code.calls-catalogue-reader·opening·opened (opened-thm.met 𝓤 H 𝓜 𝓖 𝓡) in
+    let opened-known =
+    cited 𝓤 H (Place 𝓤 H A (𝓜 .mem) (𝓡 .run)) 𝓜 𝓡 code.env #opened opened-def.routine code.calls-catalogue-reader·opening·opened (opened-thm.met 𝓤 H 𝓜 𝓖 𝓡) in
     let cut-known = cited 𝓤 H (Cut 𝓤 H A (𝓜 .mem) (𝓡 .run)) 𝓜 𝓡 code.env #cut cut-def.routine code.calls-catalogue-reader·opening·cut (cut-thm.met 𝓤 H 𝓜 𝓖 𝓡) in
     walk-proves 𝓤 H 𝓜 𝓖 𝓡 code.env #reader code.function (code.unfolded 𝓤 H 𝓜 𝓡) reader.ended stayed
-    (goes-none-slice 𝓤 H A W 1 (0 ∷ []) tt (plain (λ _. u8)) yes, (goes-none 𝓤 H A W 1 (λ _. u32) yes (λ κs x f. refl), tt)) (reader.clauses 𝓤 H A (𝓜 .mem) (𝓡 .run))
+    (goes-none-slice 𝓤 H A W 1 (0 ∷ []) tt (plain (λ _. u8)) yes, (goes-none 𝓤 H A W 1 (λ _. u32) yes (λ κs x f. refl), tt))
+    (reader.clauses 𝓤 H A (𝓜 .mem) (𝓡 .run))
     (walked 𝓤 H A reader.ended stayed (reader.clauses 𝓤 H A (𝓜 .mem) (𝓡 .run)) (WpFn 𝓤 H _ _ code.function)
     (λ κs. (slice-vals, (uint-vals w32, tt))) (λ κs. (shr-slice-tells (named 0) (κs .0) u8, (uint-tells w32, tt)))
     (λ κs qs bounds a g are. via 𝓤 _ (fst∗ 𝓤 _ (emp 𝓤))

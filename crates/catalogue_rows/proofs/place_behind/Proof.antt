@@ -1,12 +1,12 @@
--- `catalogue_reader::place_behind` meets its contract. Assumes nothing.
+-- `catalogue_rows::place_behind` meets its contract. Assumes nothing.
 use mathlib.Core.Path.{sym, ap, _∙_}
 use Prim.Native.Nat.{ℕ, _+_}
 use native.Mathlib.Omega.{arith}
 use borrow.Author.Tests.{not-true, not-false}
 use borrow.Author.Needs.{needs}
 use Rattle.catalogue_laws.specs.Reading.{AtRow, at-row-out, next-place-end, next-place-row}
-use Rattle.catalogue_reader.proofs.place_behind.Statement.{statement}
-use Rattle.catalogue_reader.proofs.place_behind.Tie as tie
+use Rattle.catalogue_rows.proofs.place_behind.Statement.{statement}
+use Rattle.catalogue_rows.proofs.place_behind.Tie as tie
 
 abbrev start : tie.Else1 → tie.Start
 start c = c .before .before .before

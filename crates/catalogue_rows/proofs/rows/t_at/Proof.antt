@@ -1,4 +1,4 @@
--- `catalogue_reader::rows::t_at` meets its contract: above T it is 0, and else the byte is one of the row's. Assumes nothing.
+-- `catalogue_rows::rows::t_at` meets its contract: above T it is 0, and else the byte is one of the row's. Assumes nothing.
 use mathlib.Core.Path.{sym, ap, _∙_}
 use Prim.Native.Nat.{ℕ, suc, _+_, _-_, _*_, _≤_}
 use native.Mathlib.Omega.{arith}
@@ -8,8 +8,8 @@ use Rattle.definitions.specs.Ranking.{leastTop}
 use Rattle.definitions.specs.Catalogue.{byteAt}
 use Rattle.catalogue_laws.specs.Sizes.{row-size-is}
 use Rattle.catalogue_laws.specs.Reading.{t-above, t-within}
-use Rattle.catalogue_reader.proofs.rows.t_at.Statement.{statement}
-use Rattle.catalogue_reader.proofs.rows.t_at.Tie as tie
+use Rattle.catalogue_rows.proofs.rows.t_at.Statement.{statement}
+use Rattle.catalogue_rows.proofs.rows.t_at.Tie as tie
 
 abbrev start : tie.After-number-size → tie.Start
 start c = c .before .before .before

@@ -1,4 +1,4 @@
--- `catalogue_reader::rows::decode` meets its contract, field by field; each number lies within the body, since the row does. Assumes nothing.
+-- `catalogue_rows::rows::decode` meets its contract, field by field; each number lies within the body, since the row does. Assumes nothing.
 use mathlib.Core.Path.{sym, ap, ap₂}
 use Prim.Native.Nat.{ℕ, _+_, _*_, _^_, _≤_}
 use native.Mathlib.Omega.{arith}
@@ -7,8 +7,8 @@ use borrow.Author.Needs.{needs}
 use Rattle.number_laws.specs.Bounds.{lead-is}
 use Rattle.catalogue_laws.specs.Sizes.{lead-room, row-size-is}
 use Rattle.catalogue_laws.specs.Reading.{row-at-is}
-use Rattle.catalogue_reader.proofs.rows.decode.Statement.{statement}
-use Rattle.catalogue_reader.proofs.rows.decode.Tie as tie
+use Rattle.catalogue_rows.proofs.rows.decode.Statement.{statement}
+use Rattle.catalogue_rows.proofs.rows.decode.Tie as tie
 
 abbrev start : tie.After-number-size → tie.Start
 start c = c .before .before

@@ -1,4 +1,4 @@
--- `catalogue_reader::rows::at_row` meets its contract: each test that fails decides. Assumes nothing.
+-- `catalogue_rows::rows::at_row` meets its contract: each test that fails decides. Assumes nothing.
 use mathlib.Core.Path.{_≡_, sym, ap, _∙_}
 use mathlib.Core.Bool.{true}
 use Prim.Native.Nat.{ℕ, _-_, _%_}
@@ -13,8 +13,8 @@ use Rattle.definitions.specs.Catalogue.{rowSize}
 use Rattle.number_laws.specs.Bounds.{lawfulTop-is}
 use Rattle.catalogue_laws.specs.Sizes.{row-size-least}
 use Rattle.catalogue_laws.specs.Reading.{at-row-degree, at-row-top, at-row-start, at-row-behind, at-row-whole}
-use Rattle.catalogue_reader.proofs.rows.at_row.Statement.{statement}
-use Rattle.catalogue_reader.proofs.rows.at_row.Tie as tie
+use Rattle.catalogue_rows.proofs.rows.at_row.Statement.{statement}
+use Rattle.catalogue_rows.proofs.rows.at_row.Tie as tie
 
 -- From behind each test to behind the one before it.
 abbrev start : tie.Else1 → tie.Start

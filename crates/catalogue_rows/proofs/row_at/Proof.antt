@@ -1,4 +1,4 @@
--- `catalogue_reader::row_at` meets its contract. Assumes nothing.
+-- `catalogue_rows::row_at` meets its contract. Assumes nothing.
 use mathlib.Core.Path.{_≡_, sym, ap, _∙_}
 use mathlib.Core.Bool.{true}
 use borrow.Author.Tests.{not-true, not-false}
@@ -6,8 +6,8 @@ use borrow.Author.Needs.{needs}
 use Rattle.definitions.specs.Catalogue.{atRow}
 use Rattle.definitions.specs.declared.NextRow.the-variants.{Found}
 use Rattle.catalogue_laws.specs.Reading.{at-row-out, next-end, next-found}
-use Rattle.catalogue_reader.proofs.row_at.Statement.{statement}
-use Rattle.catalogue_reader.proofs.row_at.Tie as tie
+use Rattle.catalogue_rows.proofs.row_at.Statement.{statement}
+use Rattle.catalogue_rows.proofs.row_at.Tie as tie
 
 abbrev start : tie.Else1 → tie.Start
 start c = c .before .before .before
