@@ -73,7 +73,8 @@ loop-less : tie.Need-loop-less Inv-loop μ-loop
 loop-less c =
     let next = called (c .before) in
     let at = turn next in
-    subst (λ (more : Bool). toGo (next .next .result .more) (next .next .result .next) < toGo more (at .loop .at)) (sym (next .before .before .loop-test .taken))
+    subst (λ (more : Bool). toGo (next .next .result .more) (next .next .result .next) < toGo more (at .loop .at))
+    (sym (next .before .before .loop-test .taken))
     (turn-falls (next .next .ensures) (fits at))
 
 loop-again : tie.Need-loop-again Inv-loop μ-loop
