@@ -1,7 +1,7 @@
 -- A ranked list has fewer rows than 32 bits count: at most as many as there are pairs, 2^m polynomials p with 2^m - 1 polynomials q each.
 -- Sorting keeps the count, and leaving pairs out makes it no larger.
 -- Assumes nothing.
-use mathlib.Core.Path.{_≡_, refl, sym, ap, _∙_}
+use mathlib.Core.Path.{_≡_, refl, ap, _∙_}
 use mathlib.Core.Bool.{Bool, true, false}
 use mathlib.Core.List.{List, [], _∷_, map}
 use Prim.Native.Nat.{ℕ, suc, _+_, _*_, _^_, _≤_, _<_}
@@ -9,7 +9,7 @@ use native.Mathlib.Nat.{mul-le-mul}
 use native.Mathlib.Omega.{arith}
 use lib.ListN.{length, length-append, length-map}
 use Rattle.definitions.specs.Number.{keep, join, numbers}
-use Rattle.definitions.specs.Generator.{Pair, period, largestDegree}
+use Rattle.definitions.specs.Generator.{Pair, period}
 use Rattle.definitions.specs.Pages.{before, insert, insertAll, sort}
 use Rattle.definitions.specs.Ranking.{rowKey, row, allPairs, listedPairs, ranked}
 use Rattle.definitions.specs.declared.Selection.{Selection}

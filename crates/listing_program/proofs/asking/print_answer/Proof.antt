@@ -1,12 +1,10 @@
 -- `listing_program::asking::print_answer` hands back what the definition prints for a line that can be read. Assumes nothing.
 use mathlib.Core.Path.{_≡_, sym, _∙_}
 use mathlib.Core.Bool.{true}
-use Prim.Native.Nat.{_≤_}
 use native.Mathlib.Omega.{arith}
 use borrow.Author.Needs.{needs}
 use borrow.Author.Tests.{not-true, not-false}
 use Rattle.definitions.specs.Generator.{lawfulDegree}
-use Rattle.definitions.specs.Listing.{largestSize}
 use Rattle.definitions.specs.Ranking.{lawfulTop}
 use Rattle.number_laws.specs.Bounds.{lawfulDegree-is, lawfulTop-is}
 use Rattle.listing_program.specs.Decision.{refused-text, size-refused, degree-refused, top-refused, none-refused, all-listed}

@@ -2,11 +2,11 @@
 -- and the room at hand stays as long as it was. The measure is how many rows are left. Assumes nothing.
 use mathlib.Core.Path.{_≡_, sym, ap, subst, _∙_}
 use mathlib.Core.Bool.{Bool}
-use Prim.Native.Nat.{_+_, _*_, _≤_, _<_}
+use Prim.Native.Nat.{_+_, _≤_, _<_}
 use native.Mathlib.Omega.{arith}
 use lib.ListN.{length}
 use borrow.Author.Needs.{needs}
-use Rattle.definitions.specs.Ranking.{longestRow, rowWidth, ranked}
+use Rattle.definitions.specs.Ranking.{rowWidth, ranked}
 use Rattle.definitions.specs.declared.Selection.{Selection}
 use Rattle.listing.specs.Printed.{mostRows}
 use Rattle.cursor.specs.declared.Cursor.{Cursor}
