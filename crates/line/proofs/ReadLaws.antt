@@ -1,7 +1,7 @@
 -- One word of a line and the numbers behind it: what is answered and what the slice holds, each way through `read_from`.
 -- A number is stored before the others, which stand in the slice already.
 -- Assumes nothing.
-use mathlib.Core.Path.{_≡_, refl, sym, ap, _∙_}
+use mathlib.Core.Path.{_≡_, refl, sym, _∙_}
 use mathlib.Core.List.{List, [], _∷_}
 use Prim.Native.Nat.{ℕ, suc, _+_, _-_, _≤_, _<_}
 use native.Mathlib.Numerals.{add-one}

@@ -1,5 +1,6 @@
--- What a page's answer tells of its rows, and where rows stand in a slice.
-pub mod Answer
+-- What is printed upon a line, how long it is, and how many rows there are.
+pub mod Count
 pub mod Decision
 pub mod Parts
+pub mod Portions
 pub mod Room

@@ -11,14 +11,16 @@ use lib.Dec.{ltb, eqb}
 use lib.ListN.{length, getD, length-append}
 use borrow.Author.Tests.{ltb-true, ltb-false}
 use Rattle.definitions.specs.Number.{numbers}
+use Rattle.definitions.specs.Ranking.{longestRow}
 use Rattle.definitions.specs.Listing.{decimal, rowText, pageText, newline, letters}
-use Rattle.listing.specs.Decimal.{decimal-digit, decimal-length-more}
-use Rattle.listing.specs.Lines.{long-length, page-line}
+use Rattle.text.specs.Decimal.{decimal-digit, decimal-length-more}
+use Rattle.text.specs.Lines.{long-length}
+use Rattle.listing.specs.Texts.{page-line}
 use Rattle.definitions.specs.Number.{over}
 use Rattle.slice_laws.specs.Over.{over-then, over-then-room, length-over}
 use Rattle.text.specs.Place.{placed, behind, placed-fits, behind-fits}
-use Rattle.listing.specs.Printed.{dueText, due-true, due-false}
-use Rattle.listing.specs.Rows.{rowBytes, row-none, row-some}
+use Rattle.listing.specs.Printed.{mostRows, dueText, due-true, due-false}
+use Rattle.row_text.specs.Rows.{rowBytes, row-none, row-some}
 
 digits-few : (k n : ℕ) → n < 10 ^ suc k → length (decimal n) ≤ suc k
 digits-few zero n h = omega (arith, ap length (decimal-digit n h))
@@ -50,27 +52,38 @@ ending-short false = omega arith
 page-room : (number rows : ℕ) (further : Bool) → number < 2 ^ 32 → rows < 2 ^ 32 → length (pageText number rows further) ≤ 37
 unfolding numbers
 page-room number rows further h k =
-    let line = ap length (page-line number rows further) ∙ long-length (letters "page ") number (letters " rows ") rows (cond further (letters " more") (letters " end") ++ newline ∷ []) in
+    let ending = cond further (letters " more") (letters " end") ++ newline ∷ [] in
+    let line = ap length (page-line number rows further) ∙ long-length (letters "page ") number (letters " rows ") rows ending in
     omega (arith, ten-digits number h, ten-digits rows k, ending-short further)
 
 -- The line of a page, behind fewer rows than 32 bits count.
-module _ (size done : ℕ) (h : done < 4000000000) where
+module _ (size done : ℕ) (h : done < mostRows) where
   pub due-room : (further : Bool) → length (dueText size done further) ≤ 37
   due-room further = go (not further || eqb (done % size + 1) size) refl
     where
       go : (b : Bool) → (not further || eqb (done % size + 1) size) ≡ b → length (dueText size done further) ≤ 37
-      go true e = rw (due-true size done further e) (page-room (done / size + 1) (done % size + 1) further (omega (arith, div-le-self done size)) (omega (arith, mod-le done size)))
+      go true e =
+          let page = div-le-self done size in
+          let row = mod-le done size in
+          rw (due-true size done further e) (page-room (done / size + 1) (done % size + 1) further (omega arith) (omega arith))
       go false e = rw (due-false size done further e) (omega arith)
+
+-- The bytes of a buffer, and the place from which on it is nearly full.
+abbrev pub bufferBytes : ℕ
+bufferBytes = 4096
+
+abbrev pub nearlyFull : ℕ
+nearlyFull = 3584
 
 -- Where a step is put: at its place, or at the front where the buffer is nearly full.
 abbrev pub freeFrom : ℕ → ℕ
-freeFrom at = cond (ltb at 3584) at 0
+freeFrom at = cond (ltb at nearlyFull) at 0
 
-free-low : (at : ℕ) → freeFrom at ≤ 3584
-free-low at = go (ltb at 3584) refl
+free-low : (at : ℕ) → freeFrom at ≤ nearlyFull
+free-low at = go (ltb at nearlyFull) refl
   where
-    go : (b : Bool) → ltb at 3584 ≡ b → freeFrom at ≤ 3584
-    go true e = rw e (let l = ltb-true at 3584 e in omega arith)
+    go : (b : Bool) → ltb at nearlyFull ≡ b → freeFrom at ≤ nearlyFull
+    go true e = rw e (let l = ltb-true at nearlyFull e in omega arith)
     go false e = rw e (omega arith)
 
 -- A row, and the line of its page where that ends.
@@ -78,7 +91,8 @@ abbrev pub stepText : ℕ → ℕ → Bool → List ℕ → List ℕ
 stepText size done further row = rowText row ++ dueText size done further
 
 -- Of at most nine numbers it fits behind that place.
-module _ (at size done : ℕ) (further : Bool) (row text : List ℕ) (h : done < 4000000000) (l : length row ≤ 9) (k : (i : ℕ) → getD row i 0 < 2 ^ 32) (e : length text ≡ 4096) where
+module _ (at size done : ℕ) (further : Bool) (row text : List ℕ) (h : done < mostRows) (l : length row ≤ longestRow)
+    (k : (i : ℕ) → getD row i 0 < 2 ^ 32) (e : length text ≡ bufferBytes) where
   pub step-room : freeFrom at + length (rowText row) + length (dueText size done further) ≤ length text
   step-room = omega (arith, free-low at, row-room row k, due-room size done h further)
 
@@ -92,7 +106,8 @@ module _ (at size done : ℕ) (further : Bool) (row text : List ℕ) (h : done <
       let first : at-place + length (rowText row) ≤ length text = omega arith in
       let end-is : end ≡ at-place + length (rowText row) = u ∙ rw f (behind-fits at-place (rowText row) text first) in
       let mid-is : mid ≡ over at-place (rowText row) text = v ∙ rw f (placed-fits at-place (rowText row) text first) in
-      let second : end + length (dueText size done further) ≤ length mid = over-then-room at-place (rowText row) (dueText size done further) text end-is mid-is room in
+      let second : end + length (dueText size done further) ≤ length mid =
+      over-then-room at-place (rowText row) (dueText size done further) text end-is mid-is room in
       let both = over-then at-place (rowText row) (dueText size done further) text room end-is mid-is
       (x ∙ behind-fits end (dueText size done further) mid second) (y ∙ placed-fits end (dueText size done further) mid second) in
       let whole = length-append (rowText row) (dueText size done further) in

@@ -2,14 +2,19 @@
 ghost use Prim.Native.Nat.{_≤_};
 ghost use lib.ListN.{length};
 ghost use mathlib.Core.Path.{_≡_};
+ghost use Rattle.definitions.specs.Answers.{refusalNumber};
 ghost use Rattle.definitions.specs.Listing.{answerText};
 ghost use Rattle.definitions.specs.declared.Line.the-variants.{Asked};
 ghost use Rattle.listing_program.specs.Decision.{printedText};
 use crate::output::print_refused;
 use crate::pages::print_list;
-use crate::pages::print_no_list;
 use crate::program::Printed;
+use definitions::Refusal;
+use definitions::Selection;
 use libc::STDIN_FILENO;
+
+// The refusal that belongs to programs alone.
+pub(crate) const UNREADABLE: u32 = 0;
 
 // A byte of the input, or its end.
 pub(crate) enum Input {
@@ -46,15 +51,29 @@ pub(crate) fn read_input(input: &mut [u8]) -> usize
     n
 }
 
-// The list, or its refusal: an unlawful page size comes before every other.
+// The line of a refusal of the library.
+fn refuse(refusal: Refusal) -> Printed
+    ensures { λ r. ⌜ r ≡ Printed.Refused (refusalNumber refusal) ⌝ }
+{
+    print_refused(answers::refusal_number(refusal))
+}
+
+// The list, or its refusal: an unlawful page size first, then the refusals of a page, which no row fits where the size is 0.
 pub(crate) fn print_answer(degree: u32, top: u32, size: u32) -> Printed
     ensures { λ r. ⌜ printedText r ≡ answerText (Asked degree top size) ⌝ }
 {
-    if size > 1000 {
-        return print_refused(0);
+    if size > listing::LARGEST_SIZE {
+        return print_refused(UNREADABLE);
+    }
+    if !limits::is_lawful_degree(degree) {
+        return refuse(Refusal::WrongDegree);
+    }
+    if !limits::is_lawful_top(top) {
+        return refuse(Refusal::WrongDimension);
     }
     if size == 0 {
-        return print_no_list(degree, top);
+        return refuse(Refusal::ShortSlice);
     }
-    print_list(degree, top, size)
+    print_list(Selection { degree, top }, size);
+    Printed::Listed(degree, top, size)
 }

@@ -3,10 +3,18 @@ ghost use mathlib.Core.Path.{_≡_};
 ghost use Prim.Native.Nat.{_*_, _+_, _≤_, _<_};
 ghost use lib.ListN.{length};
 ghost use Rattle.definitions.specs.Number.{over};
-ghost use Rattle.listing_program.specs.Room.{freeFrom, stepText};
+ghost use Rattle.definitions.specs.Ranking.{longestRow};
+ghost use Rattle.listing.specs.Printed.{mostRows};
+ghost use Rattle.listing_program.specs.Room.{bufferBytes, freeFrom, stepText};
 use crate::program::Printed;
 use libc::STDOUT_FILENO;
 use listing::printing::put_due;
+
+// More bytes than a line of words and numbers has.
+pub(crate) const LINE_ROOM: usize = 64;
+
+// From this place on a buffer is nearly full: a row and the line of its page still fit behind any place before it.
+const NEARLY_FULL: usize = 3584;
 
 // The first n bytes of a text.
 fn show(text: &[u8], n: usize)
@@ -19,7 +27,7 @@ fn show(text: &[u8], n: usize)
 pub(crate) fn print_refused(number: u32) -> Printed
     ensures { λ r. ⌜ r ≡ Printed.Refused number ⌝ }
 {
-    let mut space = [0u8; 64];
+    let mut space = [0u8; LINE_ROOM];
     let text: &mut [u8] = &mut space;
     let n = listing::put_refused(text, 0, number);
     show(text, n);
@@ -28,7 +36,7 @@ pub(crate) fn print_refused(number: u32) -> Printed
 
 // The line above a list.
 pub(crate) fn print_header(degree: u32, top: u32) {
-    let mut space = [0u8; 64];
+    let mut space = [0u8; LINE_ROOM];
     let text: &mut [u8] = &mut space;
     let n = listing::put_header(text, 0, degree, top);
     show(text, n);
@@ -36,7 +44,7 @@ pub(crate) fn print_header(degree: u32, top: u32) {
 
 // The line of the one page of an empty list.
 pub(crate) fn print_empty() {
-    let mut space = [0u8; 64];
+    let mut space = [0u8; LINE_ROOM];
     let text: &mut [u8] = &mut space;
     let n = listing::put_page(text, 0, 1, 0, false);
     show(text, n);
@@ -44,7 +52,7 @@ pub(crate) fn print_empty() {
 
 // The line below a list.
 pub(crate) fn print_total(rows: u32) {
-    let mut space = [0u8; 64];
+    let mut space = [0u8; LINE_ROOM];
     let text: &mut [u8] = &mut space;
     let n = listing::put_total(text, 0, rows);
     show(text, n);
@@ -55,7 +63,7 @@ fn make_room(text: &[u8], at: usize) -> usize
     requires { ⌜ at ≤ length (now text) ⌝ }
     ensures { λ r. ⌜ r ≡ freeFrom at ⌝ }
 {
-    if at < 3584 {
+    if at < NEARLY_FULL {
         return at;
     }
     show(text, at);
@@ -64,11 +72,11 @@ fn make_room(text: &[u8], at: usize) -> usize
 
 // A row, and the line of its page where that ends: both fit behind the place that is free.
 fn put_step(text: &mut [u8], at: usize, row: &[u32], size: u32, done: u32, further: bool) -> usize
-    requires { ⌜ length (now text) ≡ 4096 ⌝ }
+    requires { ⌜ length (now text) ≡ bufferBytes ⌝ }
     requires { ⌜ at ≤ length (now text) ⌝ }
-    requires { ⌜ length (now row) ≤ 9 ⌝ }
+    requires { ⌜ length (now row) ≤ longestRow ⌝ }
     requires { ⌜ 1 ≤ size ⌝ }
-    requires { ⌜ done < 4000000000 ⌝ }
+    requires { ⌜ done < mostRows ⌝ }
     ensures { λ r. ⌜ r ≡ freeFrom at + length (stepText size done further (now (row .entry))) ⌝ }
     ensures { λ _. ⌜ now (text .exit) ≡ over (freeFrom at) (stepText size done further (now (row .entry))) (now (text .entry)) ⌝ }
     ensures { λ r. ⌜ r ≤ length (now (text .exit)) ⌝ }
@@ -87,10 +95,10 @@ pub(crate) fn print_rows(
     done: u32,
     further: bool,
 )
-    requires { ⌜ width ≤ 9 ⌝ }
+    requires { ⌜ width ≤ longestRow ⌝ }
     requires { ⌜ count * width ≤ length (now rows) ⌝ }
     requires { ⌜ 1 ≤ size ⌝ }
-    requires { ⌜ done + count < 4000000000 ⌝ }
+    requires { ⌜ done + count < mostRows ⌝ }
 {
     let mut space = io::buffer();
     let text: &mut [u8] = &mut space;

@@ -2,8 +2,10 @@
 ghost use mathlib.Core.Path.{_≡_};
 ghost use Rattle.definitions.specs.Listing.{listing};
 ghost use Rattle.listing_program.specs.Decision.{printedText};
+use crate::asking::UNREADABLE;
 use crate::asking::print_answer;
 use crate::asking::read_input;
+use crate::output::LINE_ROOM;
 use crate::output::print_refused;
 use definitions::Line;
 
@@ -19,13 +21,13 @@ pub fn answer(input: &[u8]) -> Printed
 {
     match listing::read_line(input) {
         Line::Asked(degree, top, size) => print_answer(degree, top, size),
-        Line::Unreadable => print_refused(0),
+        Line::Unreadable => print_refused(UNREADABLE),
     }
 }
 
 // The same for the line that stands at standard input.
 pub fn run() {
-    let mut input = [0u8; 64];
+    let mut input = [0u8; LINE_ROOM];
     let n = read_input(&mut input);
     answer(&input[..n]);
 }

@@ -15,7 +15,8 @@ returns c =
 returns-2 : tie.Need-returns-2
 returns-2 c =
     let line = c .before .before .before in
-    refused-text (c .print-refused .ensures) ∙ sym (listing-unreadable (now (line .before .before .args .input)) (sym (line .read-line .ensures) ∙ c .before .enum-told .given .1))
+    refused-text (c .print-refused .ensures)
+    ∙ sym (listing-unreadable (now (line .before .before .args .input)) (sym (line .read-line .ensures) ∙ c .before .enum-told .given .1))
 
 pub answer-spec : {M : Type 1} → statement M
 answer-spec = tie.close (tie.spec (search needs) (search needs) (search needs) (search needs) (search needs) returns returns-2)
