@@ -14,8 +14,8 @@ use Rattle.points.proofs.points.Reads as points
 use Rattle.catalogue.proofs.«open».Reads as opened
 use Rattle.catalogue.proofs.lookup.Reads as lookup
 use Rattle.catalogue.proofs.body.Reads as body
-use Rattle.catalogue_reader.proofs.row_at.Reads as row-at
-use Rattle.catalogue_reader.proofs.place_behind.Reads as place-behind
+use Rattle.catalogue_rows.proofs.row_at.Reads as row-at
+use Rattle.catalogue_rows.proofs.place_behind.Reads as place-behind
 use Rattle.line.proofs.read_numbers.Reads as read-numbers
 use Rattle.listing.proofs.read_line.Reads as read-line
 use Rattle.listing.proofs.put_decimal.Reads as put-decimal

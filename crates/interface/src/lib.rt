@@ -115,10 +115,6 @@ pub extern "C" fn fenyurka_row(list: FenyurkaList, body: &[u8], place: usize) ->
 {
     let degree = list.degree;
     let top = list.top;
-    let next = catalogue_reader::place_behind(body, degree, top, place);
-    catalogues::row(
-        catalogue_reader::row_at(body, degree, top, place),
-        top,
-        next,
-    )
+    let next = catalogue_rows::place_behind(body, degree, top, place);
+    catalogues::row(catalogue_rows::row_at(body, degree, top, place), top, next)
 }

@@ -22,11 +22,11 @@ fn row(r: Row) {
 
 // The row at a place of a body, and the place behind it.
 fn read(body: &[u8], place: usize) -> usize {
-    match catalogue_reader::row_at(body, 3, 4, place) {
+    match catalogue_rows::row_at(body, 3, 4, place) {
         NextRow::Found(r) => row(r),
         NextRow::End => text(b"end\n"),
     }
-    catalogue_reader::place_behind(body, 3, 4, place)
+    catalogue_rows::place_behind(body, 3, 4, place)
 }
 
 fn looked_up(file: &[u8], degree: u32) {
