@@ -86,13 +86,17 @@ fn changed(place: usize, byte: u8) {
     answer_printed(&file);
 }
 
+fn place_of(byte: u8) -> usize {
+    byte as usize
+}
+
 // Each change is two bytes: the place and what is put there.
 fn one_byte_changed(changes: &[u8]) {
     let n = changes.len() / 2;
     let mut i = 0;
     while i < n {
         let at = 2 * i;
-        changed(changes[at] as usize, changes[at + 1]);
+        changed(place_of(changes[at]), changes[at + 1]);
         i += 1;
     }
 }
