@@ -1,6 +1,7 @@
 // A customer's catalogue: open it, look a degree up. The bytes come unchecked, and a file's form is tested once a call.
 pub mod seek;
 
+use catalogue_bytes::bytes;
 use definitions::Lookup;
 use definitions::Opening;
 use definitions::Refusal;
@@ -15,7 +16,7 @@ pub fn open(file: &[u8]) -> Opening
     if !catalogue_form::catalogue_form(file) {
         return Opening::Closed(Refusal::IllFormedCatalogue);
     }
-    Opening::Entries(catalogue_bytes::byte(file, 0))
+    Opening::Entries(bytes::byte(file, 0))
 }
 
 // The top dimension and the row count of a degree's body.

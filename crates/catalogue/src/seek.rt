@@ -1,4 +1,5 @@
 // Where a degree's body lies in a catalogue that comes unchecked.
+use catalogue_bytes::bytes;
 use catalogue_bytes::sizes;
 use catalogue_form::entries;
 use definitions::Refusal;
@@ -28,10 +29,10 @@ pub fn entry_of(s: &[u8], degree: u32) -> usize
     requires { ⌜ (1 ≤ length (now s)) × (contentsEnd (now s) ≤ length (now s)) ⌝ }
     ensures { λ r. ⌜ r ≡ entryOf (now (s .entry)) degree ⌝ }
 {
-    let mut left = catalogue_bytes::byte(s, 0) as usize;
+    let mut left = bytes::byte(s, 0) as usize;
     let mut place = sizes::FIRST_ENTRY;
     while left > 0 {
-        let here = catalogue_bytes::byte(s, place);
+        let here = bytes::byte(s, place);
         if here == degree {
             return place;
         }

@@ -1,5 +1,6 @@
 // The entries of a catalogue's contents, walked by their size: each is as long as its degree makes it.
 use crate::rows;
+use catalogue_bytes::bytes;
 use catalogue_bytes::sizes;
 ghost use mathlib.Core.Path.{_≡_};
 ghost use Prim.Native.Nat.{_+_, _≤_};
@@ -20,14 +21,14 @@ pub fn entry_at(s: &[u8], place: usize) -> Entry
     requires { ⌜ behindEntry (now s) place ≤ length (now s) ⌝ }
     ensures { λ r. ⌜ asEntry r ≡ entryAt (now (s .entry)) place ⌝ }
 {
-    let degree = catalogue_bytes::byte(s, place);
+    let degree = bytes::byte(s, place);
     let width = sizes::count_size(degree);
     let count = place + sizes::COUNT_OFFSET;
     Entry {
         degree,
-        top: catalogue_bytes::byte(s, place + sizes::TOP_OFFSET),
-        rows: catalogue_bytes::number(s, count, width),
-        offset: catalogue_bytes::number(s, count + width, sizes::OFFSET_SIZE),
+        top: bytes::byte(s, place + sizes::TOP_OFFSET),
+        rows: bytes::number(s, count, width),
+        offset: bytes::number(s, count + width, sizes::OFFSET_SIZE),
     }
 }
 
@@ -44,7 +45,7 @@ pub fn degree_at(s: &[u8], place: usize) -> u32
     ensures { λ r. ⌜ r ≡ byteAt (now (s .entry)) place ⌝ }
 {
     if place < s.len() {
-        return catalogue_bytes::byte(s, place);
+        return bytes::byte(s, place);
     }
     0
 }

@@ -2,6 +2,7 @@
 pub mod entries;
 pub mod rows;
 
+use catalogue_bytes::bytes;
 ghost use mathlib.Core.Path.{_≡_};
 ghost use Rattle.definitions.specs.Catalogue.{catalogueForm};
 
@@ -14,7 +15,7 @@ pub fn catalogue_form(s: &[u8]) -> bool
     if s.len() < 1 {
         return false;
     }
-    let n = catalogue_bytes::byte(s, 0) as usize;
+    let n = bytes::byte(s, 0) as usize;
     if n > MOST_ENTRIES {
         return false;
     }

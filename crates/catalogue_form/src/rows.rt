@@ -1,4 +1,5 @@
 // Whether rows are of the form.
+use catalogue_bytes::bytes;
 use catalogue_bytes::sizes;
 ghost use mathlib.Core.Path.{_≡_};
 ghost use Prim.Native.Nat.{_+_, _*_, _^_, _≤_};
@@ -13,10 +14,10 @@ pub fn row_form(s: &[u8], degree: u32, limit: u32, top: u32, at: usize) -> bool
     ensures { λ r. ⌜ r ≡ rowForm degree top (now (s .entry)) at ⌝ }
 {
     let width = sizes::number_size(degree);
-    if !catalogue_bytes::numbers_below(s, at, sizes::NUMBERS, width, limit) {
+    if !bytes::numbers_below(s, at, sizes::NUMBERS, width, limit) {
         return false;
     }
-    catalogue_bytes::bytes_below(
+    bytes::bytes_below(
         s,
         at + sizes::NUMBERS * width,
         sizes::value_count(top),

@@ -1,4 +1,5 @@
 // One row of a body: whether a place is the start of one, and what stands there.
+use catalogue_bytes::bytes;
 use catalogue_bytes::sizes;
 use definitions::Row;
 ghost use mathlib.Core.Path.{_≡_};
@@ -36,7 +37,7 @@ pub fn t_at(body: &[u8], degree: u32, top: u32, place: usize, s: u32) -> u32
         return 0;
     }
     let first = place + sizes::NUMBERS * sizes::number_size(degree);
-    catalogue_bytes::byte(body, first + (s - limits::LEAST_TOP) as usize)
+    bytes::byte(body, first + (s - limits::LEAST_TOP) as usize)
 }
 
 pub fn decode(body: &[u8], degree: u32, top: u32, place: usize) -> Row
@@ -45,9 +46,9 @@ pub fn decode(body: &[u8], degree: u32, top: u32, place: usize) -> Row
 {
     let width = sizes::number_size(degree);
     Row {
-        p: (1 << degree) + catalogue_bytes::number(body, place, width),
-        q: catalogue_bytes::number(body, place + width, width),
-        step: catalogue_bytes::number(body, place + 2 * width, width),
+        p: (1 << degree) + bytes::number(body, place, width),
+        q: bytes::number(body, place + width, width),
+        step: bytes::number(body, place + 2 * width, width),
         t3: t_at(body, degree, top, place, 3),
         t4: t_at(body, degree, top, place, 4),
         t5: t_at(body, degree, top, place, 5),

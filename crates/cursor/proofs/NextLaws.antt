@@ -28,8 +28,8 @@ use Rattle.ranking.specs.Serve.{Filled, fitting}
 use Rattle.ranking.specs.declared.serve.Served.{Served}
 use Rattle.cursor.specs.Left.{left, OnList, Handed}
 use Rattle.cursor.specs.Turns.{left-wide}
-use Rattle.cursor.specs.declared.Cursor.{Cursor}
-use Rattle.cursor.specs.declared.Portion.{Portion}
+use Rattle.cursor.specs.declared.reading.Cursor.{Cursor}
+use Rattle.cursor.specs.declared.reading.Portion.{Portion}
 
 -- The first k of a list, and the others, by how many there are.
 module _ {X : Type 0} where

@@ -12,8 +12,8 @@ use Rattle.definitions.specs.declared.Position.the-variants.{Start}
 use Rattle.ranking_laws.specs.Met.{ruleOf}
 use Rattle.ranking_laws.specs.Reading.{ListedPosition}
 use Rattle.search.specs.Frame.{LawfulList}
-use Rattle.cursor.specs.declared.Cursor.{Cursor}
-use Rattle.cursor.specs.declared.Portion.{Portion}
+use Rattle.cursor.specs.declared.reading.Cursor.{Cursor}
+use Rattle.cursor.specs.declared.reading.Portion.{Portion}
 
 -- The rows that are left: those of the ranked list above the cursor's position.
 unfoldable pub left : Cursor → List (List ℕ)

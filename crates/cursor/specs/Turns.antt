@@ -21,8 +21,8 @@ use Rattle.ranking_laws.specs.Ranked.{ranked-ascends, ranked-wide}
 use Rattle.ranking_laws.specs.Reading.{at-start}
 use Rattle.search.specs.Frame.{LawfulList}
 use Rattle.cursor.specs.Left.{left, startOf, OnList, Handed}
-use Rattle.cursor.specs.declared.Cursor.{Cursor}
-use Rattle.cursor.specs.declared.Portion.{Portion}
+use Rattle.cursor.specs.declared.reading.Cursor.{Cursor}
+use Rattle.cursor.specs.declared.reading.Portion.{Portion}
 
 -- Between turns: the rows `done` were handed out, and with those that are left they are the ranked list.
 pub record Reads (l : Selection) (done : List (List ℕ)) (c : Cursor) : Type 0 where

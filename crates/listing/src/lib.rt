@@ -10,8 +10,8 @@ ghost use Rattle.text.specs.Place.{placed, behind};
 pub mod printing;
 
 use definitions::Line;
-use text::put_line;
-use text::put_long_line;
+use text::lines::put_line;
+use text::lines::put_long_line;
 
 // What is asked where the line does not say it.
 const DEFAULT_TOP: u32 = 5;

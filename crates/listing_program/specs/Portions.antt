@@ -13,8 +13,8 @@ use Rattle.listing.specs.Printed.{mostRows}
 use Rattle.search.specs.Frame.{LawfulList}
 use Rattle.cursor.specs.Left.{left, startOf, OnList, Handed}
 use Rattle.cursor.specs.Turns.{left-start, start-reads, none-left}
-use Rattle.cursor.specs.declared.Cursor.{Cursor}
-use Rattle.cursor.specs.declared.Portion.{Portion}
+use Rattle.cursor.specs.declared.reading.Cursor.{Cursor}
+use Rattle.cursor.specs.declared.reading.Portion.{Portion}
 use Rattle.listing_program.specs.Count.{ranked-few}
 
 -- How many rows of the longest kind are at hand, and their numbers.

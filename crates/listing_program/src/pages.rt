@@ -4,6 +4,7 @@ ghost use lib.ListN.{length};
 ghost use mathlib.Core.Path.{_≡_};
 ghost use Rattle.definitions.specs.Ranking.{ranked};
 ghost use Rattle.search.specs.Frame.{LawfulList};
+use cursor::reading;
 use crate::output::print_empty;
 use crate::output::print_header;
 use crate::output::print_rows;
@@ -38,11 +39,11 @@ fn print_portions(list: Selection, size: u32) -> u32
     let mut space = [0u32; ROOM];
     let rows: &mut [u32] = &mut space;
     let width = width_of(list);
-    let mut at = cursor::start(list);
+    let mut at = reading::start(list);
     let mut done: u32 = 0;
     let mut more = true;
     while more {
-        let portion = cursor::next(at, rows);
+        let portion = reading::next(at, rows);
         print_rows(rows, width, portion.rows, size, done, portion.more);
         done += portion.rows as u32;
         at = portion.next;

@@ -9,7 +9,7 @@ use borrow.Author.Needs.{needs}
 use Rattle.definitions.specs.Ranking.{rowWidth, ranked}
 use Rattle.definitions.specs.declared.Selection.{Selection}
 use Rattle.listing.specs.Printed.{mostRows}
-use Rattle.cursor.specs.declared.Cursor.{Cursor}
+use Rattle.cursor.specs.declared.reading.Cursor.{Cursor}
 use Rattle.cursor.specs.Turns.{toGo, turn-falls}
 use Rattle.listing_program.specs.Portions.{roomAtHand, Printing, printing-start, printing-next, printing-few, portion-fits, printing-end, row-at-hand}
 use Rattle.listing_program.proofs.pages.print_portions.Statement.{statement}

@@ -1,4 +1,4 @@
--- `text::put_line` puts a word, a number and a newline where they fit. Assumes nothing.
+-- `text::lines::put_line` puts a word, a number and a newline where they fit. Assumes nothing.
 use mathlib.Core.Path.{_≡_}
 use mathlib.Core.List.{List}
 use Prim.Native.Nat.{ℕ, _+_, _≤_, _<_}
@@ -11,8 +11,8 @@ use Rattle.definitions.specs.Listing.{newline}
 use Rattle.text.specs.Decimal.{decimal-short}
 use Rattle.text.specs.Lines.{shortLine, line-length, line-counted, line-end}
 use Rattle.text.specs.Place.{fits-room, fits-put, fits-not}
-use Rattle.text.proofs.put_line.Statement.{statement}
-use Rattle.text.proofs.put_line.Tie as tie
+use Rattle.text.proofs.lines.put_line.Statement.{statement}
+use Rattle.text.proofs.lines.put_line.Tie as tie
 
 -- What is known at the start, and the line.
 abbrev start : tie.After-digits → tie.Start

@@ -1,4 +1,4 @@
--- `catalogue_bytes::number` meets its contract. The invariant: n is the number in the first k bytes, and is below 2^8k.
+-- `catalogue_bytes::bytes::number` meets its contract. The invariant: n is the number in the first k bytes, and is below 2^8k.
 -- Assumes nothing.
 use mathlib.Core.Path.{_≡_, sym, ap, ap₂, _∙_}
 use Prim.Native.Nat.{ℕ, _+_, _-_, _*_, _^_, _≤_, _<_}
@@ -6,8 +6,8 @@ use native.Mathlib.Omega.{arith}
 use borrow.Author.Needs.{needs}
 use Rattle.definitions.specs.Catalogue.{byteAt, numberAt}
 use Rattle.catalogue_laws.specs.Form.{number-none, number-more, number-below, number-room}
-use Rattle.catalogue_bytes.proofs.number.Statement.{statement}
-use Rattle.catalogue_bytes.proofs.number.Tie as tie
+use Rattle.catalogue_bytes.proofs.bytes.number.Statement.{statement}
+use Rattle.catalogue_bytes.proofs.bytes.number.Tie as tie
 
 abbrev Read : tie.InvT-loop
 Read s at width n₀ k₀ n k = (k ≤ width) × (n ≡ numberAt k s at) × (n < 2 ^ (8 * k))

@@ -1,9 +1,9 @@
--- `catalogue_bytes::byte` meets its contract. Assumes nothing.
+-- `catalogue_bytes::bytes::byte` meets its contract. Assumes nothing.
 use mathlib.Core.Path.{refl}
 use native.Mathlib.Omega.{arith}
 use borrow.Author.Needs.{needs}
-use Rattle.catalogue_bytes.proofs.byte.Statement.{statement}
-use Rattle.catalogue_bytes.proofs.byte.Tie as tie
+use Rattle.catalogue_bytes.proofs.bytes.byte.Statement.{statement}
+use Rattle.catalogue_bytes.proofs.bytes.byte.Tie as tie
 
 cast-result : tie.Need-cast-result
 cast-result c = omega (arith, c .shared-slice-known .given (c .before .args .i))

@@ -1,4 +1,4 @@
--- `catalogue_bytes::numbers_below` meets its contract. The invariant: the numbers behind the first `left` pass, so the first `left` decide, and
+-- `catalogue_bytes::bytes::numbers_below` meets its contract. The invariant: the numbers behind the first `left` pass, so the first `left` decide, and
 -- `place` lies behind these. Assumes nothing.
 use mathlib.Core.Path.{_≡_, refl, sym, ap, _∙_}
 use mathlib.Core.Bool.{Bool, true, false}
@@ -12,8 +12,8 @@ use Rattle.definitions.specs.Number.{every}
 use Rattle.definitions.specs.Catalogue.{numberAt}
 use Rattle.number_laws.specs.Every.{every-none, every-on, every-stop}
 use Rattle.catalogue_laws.specs.Sizes.{BackTurn, back-turn}
-use Rattle.catalogue_bytes.proofs.numbers_below.Statement.{statement}
-use Rattle.catalogue_bytes.proofs.numbers_below.Tie as tie
+use Rattle.catalogue_bytes.proofs.bytes.numbers_below.Statement.{statement}
+use Rattle.catalogue_bytes.proofs.bytes.numbers_below.Tie as tie
 
 abbrev FirstDecide : tie.InvT-loop
 FirstDecide s at n width bound left₀ place₀ left place =

@@ -5,8 +5,8 @@ use native.Mathlib.Omega.{arith}
 use Rattle.definitions.specs.Ranking.{rowWidth}
 use Rattle.cursor.proofs.NextLaws as laws
 use borrow.Author.Needs.{needs}
-use Rattle.cursor.proofs.next.Statement.{statement}
-use Rattle.cursor.proofs.next.Tie as tie
+use Rattle.cursor.proofs.reading.next.Statement.{statement}
+use Rattle.cursor.proofs.reading.next.Tie as tie
 
 abbrev entry : tie.After-fill → tie.Start
 entry c = c .before .before .before .before

@@ -1,4 +1,4 @@
--- `text::put_long_line` puts two words with their numbers, and an ending, where they fit. Assumes nothing.
+-- `text::lines::put_long_line` puts two words with their numbers, and an ending, where they fit. Assumes nothing.
 use mathlib.Core.Path.{_≡_}
 use mathlib.Core.List.{List}
 use Prim.Native.Nat.{ℕ, _+_}
@@ -9,8 +9,8 @@ use borrow.Author.Needs.{needs}
 use Rattle.text.specs.Decimal.{decimal-short}
 use Rattle.text.specs.Lines.{longLine, long-counted}
 use Rattle.text.specs.Place.{fits-room, fits-put, fits-not}
-use Rattle.text.proofs.put_long_line.Statement.{statement}
-use Rattle.text.proofs.put_long_line.Tie as tie
+use Rattle.text.proofs.lines.put_long_line.Statement.{statement}
+use Rattle.text.proofs.lines.put_long_line.Tie as tie
 
 -- What is known at the start, and the line.
 abbrev known : tie.After-digits → tie.After-shared-slice-known2

@@ -1,4 +1,4 @@
--- `catalogue_bytes::bytes_below` meets its contract. The invariant: the bytes behind the first `left` pass, so the first `left` decide.
+-- `catalogue_bytes::bytes::bytes_below` meets its contract. The invariant: the bytes behind the first `left` pass, so the first `left` decide.
 -- Assumes nothing.
 use mathlib.Core.Path.{_≡_, refl, sym, _∙_}
 use mathlib.Core.Bool.{Bool, true, false}
@@ -10,8 +10,8 @@ use borrow.Author.Needs.{needs}
 use Rattle.definitions.specs.Number.{every}
 use Rattle.definitions.specs.Catalogue.{byteAt}
 use Rattle.number_laws.specs.Every.{every-none, every-on, every-stop}
-use Rattle.catalogue_bytes.proofs.bytes_below.Statement.{statement}
-use Rattle.catalogue_bytes.proofs.bytes_below.Tie as tie
+use Rattle.catalogue_bytes.proofs.bytes.bytes_below.Statement.{statement}
+use Rattle.catalogue_bytes.proofs.bytes.bytes_below.Tie as tie
 
 abbrev FirstDecide : tie.InvT-loop
 FirstDecide s at n bound left₀ left =
