@@ -46,9 +46,9 @@ rowKey r = drop ranksFrom r ++ take 2 r
 unfoldable pub allPairs : ℕ → List Pair
 allPairs m = join (map (λ (p : ℕ). map (λ (q : ℕ). record { p = p; q = q }) (numbers 1 (period m))) (numbers (2 ^ m) (2 ^ m)))
 
--- The pairs that a list has.
+-- The pairs that a list has. The degree is named first, so that it is computed once and not for each pair.
 unfoldable pub listedPairs : Selection → List Pair
-listedPairs l = keep (λ (s : Pair). accepted (l .degree) (s .p) (s .q)) (allPairs (l .degree))
+listedPairs l = let m : ℕ = l .degree in keep (λ (s : Pair). accepted m (s .p) (s .q)) (allPairs m)
 
 unfoldable pub ranked : Selection → List (List ℕ)
 ranked l = sort rowKey (map (λ (s : Pair). row l (s .p) (s .q)) (listedPairs l))

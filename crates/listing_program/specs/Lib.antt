@@ -1,6 +1,3 @@
--- What is printed upon a line, how long it is, and how many rows there are.
-pub mod Count
+-- What is printed upon a line, and how long it is.
 pub mod Decision
-pub mod Parts
-pub mod Portions
 pub mod Room

@@ -4,11 +4,11 @@ ghost use lib.ListN.{length};
 ghost use mathlib.Core.Path.{_≡_};
 ghost use Rattle.definitions.specs.Ranking.{ranked};
 ghost use Rattle.search.specs.Frame.{LawfulList};
-use cursor::reading;
 use crate::output::print_empty;
 use crate::output::print_header;
 use crate::output::print_rows;
 use crate::output::print_total;
+use cursor::reading;
 use definitions::Selection;
 use search::frame::width_of;
 

@@ -1,7 +1,7 @@
 -- `listing::read_line` puts the numbers of the line over the defaults. Assumes nothing.
 use denote.Ref.{now}
 use borrow.Author.Needs.{needs}
-use Rattle.listing.specs.Asked.{asked-none, asked-some}
+use Rattle.listing.proofs.Asked.{asked-none, asked-some}
 use Rattle.listing.proofs.read_line.Statement.{statement}
 use Rattle.listing.proofs.read_line.Tie as tie
 

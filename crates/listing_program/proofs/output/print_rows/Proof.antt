@@ -7,7 +7,7 @@ use denote.Ref.{now}
 use lib.ListN.{length}
 use borrow.Author.Needs.{needs}
 use Rattle.definitions.specs.Ranking.{longestRow}
-use Rattle.listing_program.specs.Parts.{row-within, row-wide}
+use Rattle.listing_program.proofs.Parts.{row-within, row-wide}
 use Rattle.listing_program.specs.Room.{bufferBytes}
 use Rattle.listing_program.proofs.output.print_rows.Statement.{statement}
 use Rattle.listing_program.proofs.output.print_rows.Tie as tie

@@ -11,7 +11,7 @@ use Rattle.definitions.specs.declared.Selection.{Selection}
 use Rattle.listing.specs.Printed.{mostRows}
 use Rattle.cursor.specs.declared.reading.Cursor.{Cursor}
 use Rattle.cursor.specs.Turns.{toGo, turn-falls}
-use Rattle.listing_program.specs.Portions.{roomAtHand, Printing, printing-start, printing-next, printing-few, portion-fits, printing-end, row-at-hand}
+use Rattle.listing_program.proofs.Portions.{roomAtHand, Printing, printing-start, printing-next, printing-few, portion-fits, printing-end, row-at-hand}
 use Rattle.listing_program.proofs.pages.print_portions.Statement.{statement}
 use Rattle.listing_program.proofs.pages.print_portions.Tie as tie
 

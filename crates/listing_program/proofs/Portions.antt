@@ -9,13 +9,14 @@ use native.Mathlib.Omega.{arith}
 use lib.ListN.{length, length-drop}
 use Rattle.definitions.specs.Ranking.{longestRow, rowWidth, ranked}
 use Rattle.definitions.specs.declared.Selection.{Selection}
+use Rattle.number_laws.specs.Bounds.{lead-high}
+use Rattle.ranking_laws.specs.Ranked.{ranked-few}
 use Rattle.listing.specs.Printed.{mostRows}
 use Rattle.search.specs.Frame.{LawfulList}
 use Rattle.cursor.specs.Left.{left, startOf, OnList, Handed}
 use Rattle.cursor.specs.Turns.{left-start, start-reads, none-left}
 use Rattle.cursor.specs.declared.reading.Cursor.{Cursor}
 use Rattle.cursor.specs.declared.reading.Portion.{Portion}
-use Rattle.listing_program.specs.Count.{ranked-few}
 
 -- How many rows of the longest kind are at hand, and their numbers.
 abbrev pub rowsAtHand : ℕ
@@ -50,7 +51,9 @@ module _ {l : Selection} {at : Cursor} {done : ℕ} {more : Bool} {s t : List �
 
   pub printing-few : done + r .rows < mostRows
   printing-few =
-      let few = ranked-few (at .list) (here .on-list .lawful .degree) in
+      let degree = here .on-list .lawful .degree in
+      let few = ranked-few (at .list) (omega (arith, degree .low)) in
+      let most = lead-high degree in
       let same = ap (λ (k : Selection). length (ranked k)) (here .list) in
       omega (arith, here .counted, h .count)
 

@@ -1,0 +1,2 @@
+-- What the proofs of the listing share.
+pub mod Asked

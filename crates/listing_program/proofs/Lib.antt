@@ -1,0 +1,3 @@
+-- What the proofs of the listing program share.
+pub mod Parts
+pub mod Portions
