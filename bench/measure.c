@@ -2,6 +2,11 @@
    count: degree, how many units of work the count is to be divided by, what was measured. */
 #include "fenyurka.h"
 
+/* Moves all code by so many bytes; see bench/run. */
+#define BYTES(n) #n
+#define MOVED_BY(n) __asm__(".text\n.fill " BYTES(n) ", 1, 0x90\n")
+MOVED_BY(PLACE);
+
 #include <stdio.h>
 #include <stdlib.h>
 #include <unistd.h>
