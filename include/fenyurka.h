@@ -20,7 +20,7 @@
  * programs written in this way then have to be recompiled, and not changed.
  *
  * No function allocates memory, keeps a pointer, prints or has state, so calls with different buffers may run in parallel.
- * A call needs less than 16 KB of stack (measured by tests/c/stack.c: 10 KB for a page, 5 KB for fenyurka_points, 2 KB otherwise).
+ * A call needs less than 16 KB of stack (measured by tests/c/stack.c: 8 KB for a page, 5 KB for fenyurka_points, 2 KB otherwise).
  *
  * Link with the archive that `rt staticlib interface` writes (x86-64 Linux). tests/c/declarations compares this file with its source.
  */
@@ -91,7 +91,7 @@ typedef struct FenyurkaPage {
  * The first page of a ranked list. The list has all accepted pairs of the degree, ascending by t(3), then t(4), up to t(T), then
  * by p, then by q. A row is T + 1 numbers: p, q, the step, t(3) .. t(T). As many rows are written as fit into the buffer and exist.
  * Each page costs one search over all pairs of the degree, however many rows are written: with T = 8 and 50 rows 2.5 million
- * instructions for degree 10 and 320 million for degree 16 (docs/SPEED.md). If you need the whole list, pass a buffer that holds it.
+ * instructions for degree 10 and 314 million for degree 16 (docs/SPEED.md). If you need the whole list, pass a buffer that holds it.
  * Refusals: 1, 2, 7.
  */
 FenyurkaPage fenyurka_first_page(FenyurkaList list, uint32_t *rows, size_t rows_length);

@@ -4,12 +4,12 @@ use mathlib.Core.List.{List, [], _∷_}
 use Prim.Native.Nat.{ℕ, _+_}
 use lib.ListN.{getD}
 use Rattle.definitions.specs.Answers.{refusalNumber}
-use Rattle.definitions.specs.declared.Row.{Row}
 use Rattle.definitions.specs.declared.NextRow.{NextRow}
 use Rattle.definitions.specs.declared.NextRow.the-variants.{Found, End}
 use Rattle.catalogue.specs.declared.seek.BodyPlace.{BodyPlace}
 use Rattle.catalogue.specs.declared.seek.Located.{Located}
 use Rattle.catalogue.specs.declared.seek.Located.the-variants.{At, Missing}
+use Rattle.catalogue_laws.specs.Rows.{rowNumbers}
 use Rattle.results.specs.declared.FenyurkaJudgement.{FenyurkaJudgement}
 use Rattle.results.specs.declared.FenyurkaTValue.{FenyurkaTValue}
 use Rattle.results.specs.declared.FenyurkaPage.{FenyurkaPage}
@@ -41,10 +41,6 @@ catalogueResult values = record { refusal = value values 0; entries = value valu
 abbrev pub bodyResult : Located → FenyurkaBody
 bodyResult (At b) = record { refusal = 0; top = b .top; rows = b .rows; offset = b .offset; length = b .size; «row_size» = b .stride }
 bodyResult (Missing r) = record { refusal = refusalNumber r; top = 0; rows = 0; offset = 0; length = 0; «row_size» = 0 }
-
--- p, q, σ, t(3) .. t(8).
-abbrev pub rowNumbers : Row → List ℕ
-rowNumbers r = r .p ∷ r .q ∷ r .step ∷ r .t3 ∷ r .t4 ∷ r .t5 ∷ r .t6 ∷ r .t7 ∷ r .t8 ∷ []
 
 -- The next row, of top dimension T, and the place behind it: T + 1 numbers count. At the end none does, and all are 0.
 abbrev pub rowResult : NextRow → ℕ → ℕ → FenyurkaRow
