@@ -90,7 +90,7 @@ typedef struct FenyurkaPage {
 /*
  * The first page of a ranked list. The list has all accepted pairs of the degree, ascending by t(3), then t(4), up to t(T), then
  * by p, then by q. A row is T + 1 numbers: p, q, the step, t(3) .. t(T). As many rows are written as fit into the buffer and exist.
- * Each page costs one search over all pairs of the degree, however many rows are written: with T = 8 and 50 rows 2.5 million
+ * Each page costs one search over all pairs of the degree, however many rows are written: with T = 8 and 50 rows 2.2 million
  * instructions for degree 10 and 314 million for degree 16 (docs/SPEED.md). If you need the whole list, pass a buffer that holds it.
  * Refusals: 1, 2, 7.
  */
