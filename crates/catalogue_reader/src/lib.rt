@@ -8,7 +8,8 @@ ghost use Rattle.definitions.specs.Catalogue.{lookupPart, readerRefusal, reader
 
 // A reader of a degree's body, at its first row. Where the lookup is refused it has the number and the empty part, and is at the end.
 pub fn reader<'a>(file: &'a [u8], degree: u32) -> Reader<'a>
-    ensures { λ r. ⌜ (r .refusal ≡ readerRefusal (now (file .entry)) degree) × (now (r .body) ≡ lookupPart (now (file .entry)) degree) × (r .degree ≡ degree) × (r .top ≡ readerTop (now (file .entry)) degree) × (r .place ≡ 0) ⌝ }
+    ensures { λ r. ⌜ (r .refusal ≡ readerRefusal (now (file .entry)) degree) × (now (r .body) ≡ lookupPart (now (file .entry)) degree)
+        × (r .degree ≡ degree) × (r .top ≡ readerTop (now (file .entry)) degree) × (r .place ≡ 0) ⌝ }
 {
     let found = opening::opened(file, degree);
     let refusal = found.refusal;
@@ -34,7 +35,8 @@ pub fn next<'a>(at: Reader<'a>) -> NextRow
 
 // The reader behind that row; at the end it stays.
 pub fn advance<'a>(at: Reader<'a>) -> Reader<'a>
-    ensures { λ r. ⌜ (r .refusal ≡ at .entry .refusal) × (r .body ≡ at .entry .body) × (r .degree ≡ at .entry .degree) × (r .top ≡ at .entry .top) × (r .place ≡ nextPlace (at .entry .degree) (at .entry .top) (now (at .entry .body)) (at .entry .place)) ⌝ }
+    ensures { λ r. ⌜ (r .refusal ≡ at .entry .refusal) × (r .body ≡ at .entry .body) × (r .degree ≡ at .entry .degree) × (r .top ≡ at .entry .top)
+        × (r .place ≡ nextPlace (at .entry .degree) (at .entry .top) (now (at .entry .body)) (at .entry .place)) ⌝ }
 {
     let refusal = at.refusal;
     let body = at.body;

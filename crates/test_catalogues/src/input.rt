@@ -58,6 +58,21 @@ fn least(a: usize, b: usize) -> usize
     if a < b { a } else { b }
 }
 
+// The value of two hexadecimal digits; 256 where they are none.
+fn pair(high: u8, low: u8) -> u32
+    ensures { λ r. ⌜ r ≤ 256 ⌝ }
+{
+    let first = hexadecimal(high) as u32;
+    let second = hexadecimal(low) as u32;
+    if first > 15 {
+        return 256;
+    }
+    if second > 15 {
+        return 256;
+    }
+    first * 16 + second
+}
+
 // The bytes from a place on into a file, until something else stands there or the file is full, and how many they are.
 pub(crate) fn decode(bytes: &[u8], from: usize, file: &mut [u8]) -> usize
     requires { ⌜ from ≤ length (now bytes) ⌝ }
@@ -67,15 +82,11 @@ pub(crate) fn decode(bytes: &[u8], from: usize, file: &mut [u8]) -> usize
     let mut n = 0;
     while n < most {
         let at = from + 2 * n;
-        let high = hexadecimal(bytes[at]);
-        let low = hexadecimal(bytes[at + 1]);
-        if high > 15 {
+        let value = pair(bytes[at], bytes[at + 1]);
+        if value > 255 {
             return n;
         }
-        if low > 15 {
-            return n;
-        }
-        file[n] = high * 16 + low;
+        file[n] = value as u8;
         n += 1;
     }
     n

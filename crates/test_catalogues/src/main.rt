@@ -1,5 +1,12 @@
-// Catalogues whole and damaged: each line of the input is a degree and a file in hexadecimal. Printed are what opening and looking up answer, and the
-// rows that a reader of the degree hands out, to its end.
+// Catalogues whole and damaged: each line of the input is a degree and a file in hexadecimal. Printed are what opening and looking up answer, and what
+// a reader of the degree hands out, to its end:
+//     f LENGTH n ENTRIES                        the file's length, and how many degrees it has
+//     d DEGREE l LENGTH T TOP r ROWS            the degree, the length of its body, T and the row count
+//     @ PLACE > BEHIND .                        no row stands at this place of the body, and the place stays
+//     R NUMBER                                  the number that a reader carries
+//     + p q σ t(3) .. t(8)                      a row
+//     .                                         the end
+// In place of what is refused stands ! and the number.
 mod input; // the lines of the input
 mod lookup; // opening, and looking a degree up
 mod print; // what is printed with

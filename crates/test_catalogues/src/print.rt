@@ -1,34 +1,38 @@
-// What is printed with.
+// What is printed with: each number behind a letter that says what it is, and single bytes.
 use definitions::NextRow;
 use definitions::Refusal;
 use definitions::Row;
 ghost use mathlib.Core.Path.{_≡_};
 ghost use Rattle.test_catalogues.specs.Shown.{isRow};
 
-pub(crate) fn text(bytes: &[u8]) {
-    io::write_all(libc::STDOUT_FILENO, bytes);
+pub(crate) fn byte(b: u8) {
+    let one = [b; 1];
+    io::write_all(libc::STDOUT_FILENO, &one);
 }
 
-pub(crate) fn number(n: u32) {
-    io::print_decimal(libc::STDOUT_FILENO, n as u64);
+fn number(n: u64) {
+    byte(b' ');
+    io::print_decimal(libc::STDOUT_FILENO, n);
 }
 
-pub(crate) fn count(n: usize) {
-    io::print_decimal(libc::STDOUT_FILENO, n as u64);
+// A number, what it is, and the byte behind it.
+pub(crate) fn field(name: u8, n: u64, behind: u8) {
+    byte(name);
+    number(n);
+    byte(behind);
 }
 
 pub(crate) fn refused(refusal: Refusal) {
-    text(b" refused ");
-    number(answers::refusal_number(refusal));
+    field(b'!', answers::refusal_number(refusal) as u64, b'\n');
 }
 
+// A further number of a row.
 fn further(n: u32) {
-    text(b" ");
-    number(n);
+    number(n as u64);
 }
 
 fn row(r: Row) {
-    text(b"row");
+    byte(b'+');
     further(r.p);
     further(r.q);
     further(r.step);
@@ -38,7 +42,6 @@ fn row(r: Row) {
     further(r.t6);
     further(r.t7);
     further(r.t8);
-    text(b"\n");
 }
 
 // What a reader hands out, and whether it was a row.
@@ -48,10 +51,12 @@ pub(crate) fn shown(next: NextRow) -> bool
     match next {
         NextRow::Found(r) => {
             row(r);
+            byte(b'\n');
             true
         }
         NextRow::End => {
-            text(b"end\n");
+            byte(b'.');
+            byte(b'\n');
             false
         }
     }

@@ -1,13 +1,10 @@
 // A reader, from its first row to its end.
-use crate::print::number;
+use crate::print::field;
 use crate::print::shown;
-use crate::print::text;
 
 // The number that a reader carries.
-pub(crate) fn opened(refusal: u32) {
-    text(b"reader ");
-    number(refusal);
-    text(b"\n");
+fn opened(refusal: u32) {
+    field(b'R', refusal as u64, b'\n');
 }
 
 pub(crate) fn rows(file: &[u8], degree: u32) {

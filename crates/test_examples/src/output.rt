@@ -1,19 +1,25 @@
 // The output of (11, 4), and the full period of Table 1's pair for m = 16, in one call and in two.
-use crate::print::count;
-use crate::print::number;
+use crate::print::counted;
+use crate::print::line_end;
+use crate::print::named;
+use crate::print::pair;
+use crate::print::refused;
 use crate::print::text;
 use definitions::PointsAnswer;
 ghost use Prim.Native.Nat.{_<_, _^_};
 
+// The call that is made, and what it answers.
+fn asked(m: u32, p: u32, q: u32, first: u32) {
+    pair(b"points", m, p, q);
+    named(b" from ", first);
+}
+
 fn answer(a: PointsAnswer) {
     match a {
-        PointsAnswer::Written(n) => {
-            text(b" count ");
-            count(n);
-        }
-        PointsAnswer::NotWritten(refusal) => crate::print::refused(refusal),
+        PointsAnswer::Written(n) => counted(b" count ", n),
+        PointsAnswer::NotWritten(refusal) => refused(refusal),
     }
-    text(b"\n");
+    line_end();
 }
 
 // Whether two slices hold the same words.
@@ -54,7 +60,7 @@ fn lines(words: &[u32]) {
     let mut i = 0;
     while i < words.len() {
         io::print_hex(1, wide(words[i]), 8);
-        text(b"\n");
+        line_end();
         i += 1;
     }
 }
@@ -62,25 +68,29 @@ fn lines(words: &[u32]) {
 // The eighth number of the slice stays.
 fn seven_words() {
     let mut out = [9u32; 8];
-    text(b"points 3 11 4 from 0");
+    asked(3, 11, 4, 0);
     answer(points::points(3, 11, 4, 0, &mut out));
     lines(&out);
+}
+
+// Words of Table 1's pair for m = 16.
+fn long(first: u32, out: &mut [u32]) {
+    asked(16, 103403, 60601, first);
+    answer(points::points(16, 103403, 60601, first, out));
 }
 
 fn first_part(parts: &mut [u32]) {
     if parts.len() < 10001 {
         return;
     }
-    text(b"points 16 103403 60601 from 0");
-    answer(points::points(16, 103403, 60601, 0, &mut parts[0..10001]));
+    long(0, &mut parts[0..10001]);
 }
 
 fn second_part(parts: &mut [u32]) {
     if parts.len() < 10001 {
         return;
     }
-    text(b"points 16 103403 60601 from 10001");
-    answer(points::points(16, 103403, 60601, 10001, &mut parts[10001..]));
+    long(10001, &mut parts[10001..]);
 }
 
 fn compared(whole: &[u32; 65535], parts: &[u32; 65535]) {
@@ -101,39 +111,34 @@ fn period_parts() -> [u32; 65535] {
 
 fn full_period() {
     let mut whole = [0u32; 65535];
-    text(b"points 16 103403 60601 from 0");
-    answer(points::points(16, 103403, 60601, 0, &mut whole));
+    long(0, &mut whole);
     let mut parts = period_parts();
     second_part(&mut parts);
     compared(&whole, &parts);
 }
 
-fn asked(q: u32, first: u32, out: &mut [u32]) {
-    text(b"points 3 11 ");
-    number(q);
-    text(b" from ");
-    number(first);
-    text(b" room ");
-    count(out.len());
+fn short(q: u32, first: u32, out: &mut [u32]) {
+    asked(3, 11, q, first);
+    counted(b" room ", out.len());
     answer(points::points(3, 11, q, first, out));
 }
 
 fn edges() {
     let mut room = [9u32; 2];
-    asked(4, 6, &mut room);
-    asked(4, 7, &mut room);
-    asked(4, 4294967295, &mut room);
-    asked(2, 7, &mut room);
+    short(4, 6, &mut room);
+    short(4, 7, &mut room);
+    short(4, 4294967295, &mut room);
+    short(2, 7, &mut room);
 }
 
 fn no_room() {
     let mut room = [9u32; 2];
-    asked(4, 0, &mut room[..0]);
+    short(4, 0, &mut room[..0]);
 }
 
 fn no_room_beyond() {
     let mut room = [9u32; 2];
-    asked(4, 7, &mut room[..0]);
+    short(4, 7, &mut room[..0]);
 }
 
 pub(crate) fn all() {

@@ -1,6 +1,8 @@
 // Pages of degree 3 up to dimension 4: too short a slice, and one row after the other in a slice that keeps its tail.
-use crate::print::count;
-use crate::print::number;
+use crate::print::counted;
+use crate::print::further;
+use crate::print::line_end;
+use crate::print::refused;
 use crate::print::text;
 use definitions::PageAnswer;
 use definitions::Position;
@@ -9,11 +11,19 @@ use definitions::Selection;
 fn numbers(slice: &[u32]) {
     let mut i = 0;
     while i < slice.len() {
-        text(b" ");
-        number(slice[i]);
+        further(slice[i]);
         i += 1;
     }
-    text(b"\n");
+    line_end();
+}
+
+fn given(rows: usize, more: bool) {
+    counted(b" rows ", rows);
+    if more {
+        text(b" more");
+    } else {
+        text(b" end");
+    }
 }
 
 // The answer, and what the slice holds afterwards.
@@ -21,20 +31,10 @@ fn asked(position: Position, slice: &mut [u32]) {
     let list = Selection { degree: 3, top: 4 };
     let request = ranking::request(list, position);
     match ranking::page(request, slice) {
-        PageAnswer::Page(rows, further) => {
-            text(b" rows ");
-            count(rows);
-            if further {
-                text(b" more:");
-            } else {
-                text(b" end:");
-            }
-        }
-        PageAnswer::NoPage(refusal) => {
-            crate::print::refused(refusal);
-            text(b":");
-        }
+        PageAnswer::Page(rows, more) => given(rows, more),
+        PageAnswer::NoPage(refusal) => refused(refusal),
     }
+    text(b":");
     numbers(slice);
 }
 
@@ -45,10 +45,9 @@ fn first(slice: &mut [u32]) {
 
 fn after(p: u32, q: u32) {
     let mut slice = [9u32; 7];
-    text(b"page 3 4 after ");
-    number(p);
-    text(b" ");
-    number(q);
+    text(b"page 3 4 after");
+    further(p);
+    further(q);
     asked(Position::After(p, q), &mut slice);
 }
 

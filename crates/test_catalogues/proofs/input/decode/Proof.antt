@@ -19,7 +19,6 @@ pub decode-spec : {M : Type 1} → statement M
 decode-spec =
     tie.close
     (tie.spec Fits left (λ c. search needs) (λ c κs. search needs) (λ c. (refl, omega arith, omega arith, omega arith)) (λ c. omega arith) (λ c. omega arith)
-    (λ c. omega arith) (λ c κs. search needs) (λ c. omega arith) (λ c. omega arith) (λ c κs. search needs) (λ c. search needs) (λ c. (omega arith, sym (length-take-le _ _ (omega arith))))
-    (λ c. search needs) (λ c. (omega arith, sym (length-take-le _ _ (omega arith)))) (λ c. omega arith) (λ c. omega arith) (λ c. omega arith) (λ c. omega arith) (λ c. search needs)
-    (λ c. (search needs, omega arith, search needs, search needs)) (λ c. search needs)
-    (λ c. (omega arith, sym (length-take-le _ _ (omega arith)))))
+    (λ c. omega arith) (λ c. omega arith) (λ c. omega arith) (λ c κs. search needs) (λ c. search needs)
+    (λ c. (omega arith, sym (length-take-le _ _ (omega arith)))) (λ c. omega arith) (λ c. omega arith) (λ c. omega arith) (λ c. search needs)
+    (λ c. (search needs, omega arith, search needs, search needs)) (λ c. search needs) (λ c. (omega arith, sym (length-take-le _ _ (omega arith)))))

@@ -15,7 +15,7 @@ use base.Logic.{SProp, ent, sep, emp, via, fst∗, snd∗, exE, id⊢}
 use base.Fml.{Lft, Share, Fml, ftrue, fat, froom, fdies, flft}
 use prog.Memory.{Memory}
 use prog.Routine.{Routine}
-use prog.Wp.{Heap, Out, Env, WpFn, Tables, afterTurn}
+use prog.Wp.{Heap, Out, Env, Calls, WpFn, Tables, afterTurn}
 use prog.Wp.{exits as exitsᴼ}
 use ghost.Atoms.{Atoms, sem}
 use contract.Lifetimes.{Lfts}
@@ -26,8 +26,8 @@ use types.Kit.{frame, await, done, runs, anyQ, atRet, Sq}
 use types.Kit.{Seq, prop}
 use types.Kit.{drop as let-go}
 use types.Part.{whole, sub, look-in}
-use types.Run.{look, store, init, forget, stop, fld, from, load, unit-lit, of-opd, and-then, no-more, assigns, land, land-last, first, skips, jumps, blocks, branches}
-use types.Run.{returns, enter, alloc1, alloc0, params1, pass1, pass0, free1, free0, exec, Below, again, loops}
+use types.Run.{look, store, init, forget, stop, fld, from, load, unit-lit, of-opd, and-then, no-more, assigns, land, land-last, first, skips}
+use types.Run.{jumps, blocks, branches, returns, enter, alloc1, alloc0, params1, pass1, pass0, free1, free0, exec, Below, again, loops}
 use sound.WpLaws.{FmC, fmOf, WpFn-mono}
 use denote.RattleType.{RattleType, owns}
 use denote.Laws.{Is, shows}
@@ -124,6 +124,13 @@ module _ {M : Type 1} (𝓤 : URA M) (H : Heap 𝓤) (A : Atoms 𝓤) (mem : Mem
 
   abbrev Says : Contract 𝓤
   Says = tripleOf 𝓤 H A opened.signature (opened.spec 𝓤 H A mem run)
+
+  record Known (C : Calls 𝓤 H) : Type 1 where
+    opens : Triple 𝓤 (C reader-def.name) Opens
+    nexts : Triple 𝓤 (C next-def.name) Next
+    moves : Triple 𝓤 (C advance-def.name) Moves
+    shows-row : Triple 𝓤 (C shown-def.name) Shows
+    says-number : Triple 𝓤 (C opened-def.name) Says
 
 module _ {M : Type 1} (𝓤 : URA M) (H : Heap 𝓤) (A : Atoms 𝓤) (W : Given 𝓤 H A) (mem : Memory → SProp 𝓤) (run : Routine → Fun 𝓤) (κ : Lft) (q : Share) (s : RefT (List ℕ)) (m : ℕ) (ok : m < 2 ^ 32) where
   abbrev κs : Lfts 1
@@ -227,7 +234,7 @@ module _ {M : Type 1} (𝓤 : URA M) (H : Heap 𝓤) (A : Atoms 𝓤) (W : Given
       -- [the parameters; the result; the token]
       join ! $ move ! (1 ∷ 0 ∷ []) $ join ! $ frame ! $ done !
 
-  module _ (𝓣 : Tables 𝓤 H) (fm : FmC 𝓤 H (W .laws) (𝓣 .C)) (known-reader : Triple 𝓤 (𝓣 .C reader-def.name) (Opens 𝓤 H A mem run)) (known-next : Triple 𝓤 (𝓣 .C next-def.name) (Next 𝓤 H A mem run)) (known-advance : Triple 𝓤 (𝓣 .C advance-def.name) (Moves 𝓤 H A mem run)) (known-shown : Triple 𝓤 (𝓣 .C shown-def.name) (Shows 𝓤 H A mem run)) (known-opened : Triple 𝓤 (𝓣 .C opened-def.name) (Says 𝓤 H A mem run)) where
+  module _ (𝓣 : Tables 𝓤 H) (fm : FmC 𝓤 H (W .laws) (𝓣 .C)) (known : Known 𝓤 H A mem run (𝓣 .C)) where
     -- Local i of ten, behind `front` things.
     abbrev at : ℕ → ℕ → ℕ
     at front i = front + 2 * (9 - i)
@@ -263,9 +270,10 @@ module _ {M : Type 1} (𝓤 : URA M) (H : Heap 𝓤) (A : Atoms 𝓤) (W : Given
           turned : Sq W (At r) (runs (𝓣 .C) (𝓣 .Λ) locals turn (anyQ (Turned left r)))
           turned =
               peeks ! (Held κs) (Is (Held κs)) (shows 𝓤 H A (Held κs)) r (T′.lowered r ∷ []) (λ is-r.
-              assigns ! (of-opd ! (load ! (from ! (stop !)) (look ! (at 3 3) refl))) (from ! (stop !)) (init ! (at 3 8) refl (local-typed r (T′.lowered r) is-r)) $
+              assigns ! (of-opd ! (load ! (from ! (stop !)) (look ! (at 3 3) refl))) (from ! (stop !))
+              (init ! (at 3 8) refl (local-typed r (T′.lowered r) is-r)) $
               use1 W (‵ (Own r) ⊛ ‵ (Own r)) (twice r) $ split ! $ move ! (0 ∷ 2 ∷ []) $ use2 W (raw (Next 𝓤 H A mem run .pre (to-next r))) (goes-next r) $
-              calls-at ! fm (Next 𝓤 H A mem run) known-next (to-next r) (and-then ! (load ! (from ! (stop !)) (look ! (at 3 8) refl)) (no-more !)) (λ u₇.
+              calls-at ! fm (Next 𝓤 H A mem run) (known .nexts) (to-next r) (and-then ! (load ! (from ! (stop !)) (look ! (at 3 8) refl)) (no-more !)) (λ u₇.
               use1 W (later (some (λ (t : NextRow). (Token ⊛ ‵ (S.the-row .own t (u₇ ∷ [])))
               ⊛ raw (ensured 𝓤 H A next.ended (next.clauses 𝓤 H A mem run) κs (r, tt) tt t)))) (id⊢ 𝓤 _) $ await ! tt $ pick ! (λ t.
               split ! $ move ! (1 ∷ []) $ use1 W (raw (fact 𝓤 (t ≡ here r))) (next-said r t) $ heard ! (t ≡ here r) (λ is-here. split ! $ move ! (1 ∷ []) $
@@ -273,7 +281,7 @@ module _ {M : Type 1} (𝓤 : URA M) (H : Heap 𝓤) (A : Atoms 𝓤) (W : Given
               peeks ! S.the-row (Is S.the-row) (shows 𝓤 H A S.the-row) t (u₇ ∷ []) (λ is₇.
               land ! (from ! (stop !)) (init ! (at 4 7) refl (EL.lawful S.the-type S′.the-laws 𝓤 H A W tt .typed t _ is₇ .0)) $
               use1 W (raw (Shows 𝓤 H A mem run .pre (to-shown t u₇))) (goes-shown t u₇) $
-              calls-at ! fm (Shows 𝓤 H A mem run) known-shown (to-shown t u₇) (and-then ! (load ! (from ! (stop !)) (look ! (at 4 7) refl)) (no-more !)) (λ u₆.
+              calls-at ! fm (Shows 𝓤 H A mem run) (known .shows-row) (to-shown t u₇) (and-then ! (load ! (from ! (stop !)) (look ! (at 4 7) refl)) (no-more !)) (λ u₆.
               use1 W (later (some (λ (b : Bool). (‵ ftrue ⊛ ‵ (bool .own b (u₆ ∷ [])))
               ⊛ raw (ensured 𝓤 H A shown.ended (shown.clauses 𝓤 H A mem run) tt (t, tt) tt b)))) (id⊢ 𝓤 _) $ await ! tt $ pick ! (λ b.
               split ! $ move ! (1 ∷ []) $ use1 W (raw (fact 𝓤 (b ≡ isRow t))) (shown-said t b) $ heard ! (b ≡ isRow t) (λ is-row. split ! $ let-go ! $
@@ -283,9 +291,10 @@ module _ {M : Type 1} (𝓤 : URA M) (H : Heap 𝓤) (A : Atoms 𝓤) (W : Given
               rewrite ! (at 4 6) (λ (x : Val). ‵ (fat fullShare tyBool l₆ 0 x)) (ap only is₆) refl $ let-go ! $
               first ! $ branches ! (load ! (from ! (stop !)) (look ! (at 3 6) refl))
               (λ more. skips ! $ exec ! (𝓣 .C) (𝓣 .Λ) locals moving (anyQ (Turned left r)) $
-              assigns ! (of-opd ! (load ! (from ! (stop !)) (look ! (at 3 3) refl))) (from ! (stop !)) (init ! (at 3 9) refl (local-typed r (T′.lowered r) is-r)) $
+              assigns ! (of-opd ! (load ! (from ! (stop !)) (look ! (at 3 3) refl))) (from ! (stop !))
+              (init ! (at 3 9) refl (local-typed r (T′.lowered r) is-r)) $
               move ! (1 ∷ 0 ∷ []) $ use2 W (raw (Moves 𝓤 H A mem run .pre (to-advance r))) (goes-advance r) $
-              calls-at-last ! fm (Moves 𝓤 H A mem run) known-advance (to-advance r)
+              calls-at-last ! fm (Moves 𝓤 H A mem run) (known .moves) (to-advance r)
               (and-then ! (load ! (from ! (stop !)) (look ! (at 2 9) refl)) (no-more !)) (λ u₃.
               use1 W (later (some (λ (r′ : Reader). (Token ⊛ ‵ (Held κs .own r′ (u₃ ∷ [])))
               ⊛ raw (ensured 𝓤 H A advance.ended (advance.clauses 𝓤 H A mem run) κs (r, tt) tt r′)))) (id⊢ 𝓤 _) $ await ! tt $ pick ! (λ r′.
@@ -313,7 +322,7 @@ module _ {M : Type 1} (𝓤 : URA M) (H : Heap 𝓤) (A : Atoms 𝓤) (W : Given
         pass1 ! (init ! (at 0 2) refl (tt, record { fits = ok })) $ pass0 ! $
         -- what the parameters own stands behind all locals
         move ! ((2 + at 0 0) ∷ []) $ use1 W (raw (Opens 𝓤 H A mem run .pre to-reader) ⊛ ‵ Kept) goes-reader $ split ! $
-        calls-at ! fm (Opens 𝓤 H A mem run) known-reader to-reader
+        calls-at ! fm (Opens 𝓤 H A mem run) (known .opens) to-reader
         (and-then ! (load ! (from ! (stop !)) (look ! (at 2 1) refl)) (and-then ! (load ! (from ! (stop !)) (look ! (at 2 2) refl)) (no-more !))) (λ u.
         use1 W (later (some (λ (r : Reader). (Token ⊛ ‵ (Held κs .own r (u ∷ [])))
         ⊛ raw (ensured 𝓤 H A reader.ended (reader.clauses 𝓤 H A mem run) κs (s, (m, tt)) tt r)))) (id⊢ 𝓤 _) $ await ! tt $ pick ! (λ r.
@@ -328,7 +337,7 @@ module _ {M : Type 1} (𝓤 : URA M) (H : Heap 𝓤) (A : Atoms 𝓤) (W : Given
         assigns ! (of-opd ! (load ! (from ! (fld ! refl (stop !))) (look-in ! (at 3 3) (sub ! 0 refl (whole !)))))
         (from ! (stop !)) (init ! (at 3 5) refl (tt, refusal-typed)) $
         use0 W (raw (Says 𝓤 H A mem run .pre (to-says (r .refusal)))) (goes-says (r .refusal) (refusal-typed .fits)) $
-        calls-at ! fm (Says 𝓤 H A mem run) known-opened (to-says (r .refusal))
+        calls-at ! fm (Says 𝓤 H A mem run) (known .says-number) (to-says (r .refusal))
         (and-then ! (load ! (from ! (stop !)) (look ! (at 4 5) refl)) (no-more !)) (λ u₄.
         use1 W (later (some (λ (x : Unit {0}). (‵ ftrue ⊛ ‵ (unit .own x (u₄ ∷ [])))
         ⊛ raw (ensured 𝓤 H A opened.ended (opened.clauses 𝓤 H A mem run) tt (r .refusal, tt) tt x)))) (id⊢ 𝓤 _) $ await ! tt $ pick ! (λ x.
@@ -337,7 +346,8 @@ module _ {M : Type 1} (𝓤 : URA M) (H : Heap 𝓤) (A : Atoms 𝓤) (W : Given
         land ! (from ! (stop !)) (init ! (at 4 4) refl (nothing-lawful 𝓤 H A W .typed x _ is₄ .0)) $ let-go ! $
         forget ! (at 3 4) refl $ forget ! (at 3 5) refl $ first ! $ blocks ! $
         loops ! 𝓣 Nearer nearer-wf (At l₀ l₁ l₂ l₃ l₄ l₅ l₆ l₇ l₈ l₉) (λ r. turns l₀ l₁ l₂ l₃ l₄ l₅ l₆ l₇ l₈ l₉ ! _ r (
-        exec ! (𝓣 .C) (𝓣 .Λ) (locals l₀ l₁ l₂ l₃ l₄ l₅ l₆ l₇ l₈ l₉) rest (atRet (locals l₀ l₁ l₂ l₃ l₄ l₅ l₆ l₇ l₈ l₉) Post) $ assigns ! (of-opd ! (unit-lit !)) (from ! (stop !)) (init ! (at 3 0) refl (tt, tt)) $ let-go ! $
+        exec ! (𝓣 .C) (𝓣 .Λ) (locals l₀ l₁ l₂ l₃ l₄ l₅ l₆ l₇ l₈ l₉) rest (atRet (locals l₀ l₁ l₂ l₃ l₄ l₅ l₆ l₇ l₈ l₉) Post) $
+        assigns ! (of-opd ! (unit-lit !)) (from ! (stop !)) (init ! (at 3 0) refl (tt, tt)) $ let-go ! $
         -- [the token; the file's slice; room for _9; …]
         returns ! (look ! (at 2 0) refl) $ forget ! (at 2 3) refl $ forget ! (at 2 2) refl $ forget ! (at 2 1) refl $ forget ! (at 2 0) refl $
         move ! (with-room (at 2 0)) $ free1 ! $ move ! (with-room (at 2 1)) $ free1 ! $ move ! (with-room (at 2 2)) $ free1 ! $
@@ -353,15 +363,16 @@ rows-spec 𝓤 H 𝓜 𝓖 𝓡 =
     let 𝓣 : Tables 𝓤 H = tablesOf 𝓤 H 𝓜 (tables 𝓤 H 𝓜 𝓡 code.env) in
     let mem = 𝓜 .mem in
     let run = 𝓡 .run in
-    let reader-known =
-    cited 𝓤 H (Opens 𝓤 H A mem run) 𝓜 𝓡 code.env reader-def.name reader-def.routine code.calls-catalogue-reader·reader (reader-thm.met 𝓤 H 𝓜 𝓖 𝓡) in
-    let next-known = cited 𝓤 H (Next 𝓤 H A mem run) 𝓜 𝓡 code.env next-def.name next-def.routine code.calls-catalogue-reader·next (next-thm.met 𝓤 H 𝓜 𝓖 𝓡) in
-    let advance-known =
-    cited 𝓤 H (Moves 𝓤 H A mem run) 𝓜 𝓡 code.env advance-def.name advance-def.routine code.calls-catalogue-reader·advance (advance-thm.met 𝓤 H 𝓜 𝓖 𝓡) in
-    let shown-known =
-    cited 𝓤 H (Shows 𝓤 H A mem run) 𝓜 𝓡 code.env shown-def.name shown-def.routine code.calls-test-catalogues·print·shown (shown-thm.met 𝓤 H 𝓜 𝓖 𝓡) in
-    let opened-known =
-    cited 𝓤 H (Says 𝓤 H A mem run) 𝓜 𝓡 code.env opened-def.name opened-def.routine code.calls-test-catalogues·walk·opened (opened-thm.met 𝓤 H 𝓜 𝓖 𝓡) in
+    let known : Known 𝓤 H A mem run (𝓣 .C) = record {
+      opens = cited 𝓤 H (Opens 𝓤 H A mem run) 𝓜 𝓡 code.env reader-def.name reader-def.routine code.calls-catalogue-reader·reader (reader-thm.met 𝓤 H 𝓜 𝓖 𝓡);
+      nexts = cited 𝓤 H (Next 𝓤 H A mem run) 𝓜 𝓡 code.env next-def.name next-def.routine code.calls-catalogue-reader·next (next-thm.met 𝓤 H 𝓜 𝓖 𝓡);
+      moves =
+          cited 𝓤 H (Moves 𝓤 H A mem run) 𝓜 𝓡 code.env advance-def.name advance-def.routine code.calls-catalogue-reader·advance (advance-thm.met 𝓤 H 𝓜 𝓖 𝓡);
+      shows-row =
+          cited 𝓤 H (Shows 𝓤 H A mem run) 𝓜 𝓡 code.env shown-def.name shown-def.routine code.calls-test-catalogues·print·shown (shown-thm.met 𝓤 H 𝓜 𝓖 𝓡);
+      says-number =
+          cited 𝓤 H (Says 𝓤 H A mem run) 𝓜 𝓡 code.env opened-def.name opened-def.routine code.calls-test-catalogues·walk·opened (opened-thm.met 𝓤 H 𝓜 𝓖 𝓡);
+    } in
     entered 𝓤 H (tripleOf 𝓤 H A rows.signature (rows.spec 𝓤 H A mem run)) (𝓣 .C) (𝓣 .Λ) #rows code.function (code.unfolded 𝓤 H 𝓜 𝓡)
     (walk-meets 𝓤 H A rows.ended stayed W
     (goes-none-slice 𝓤 H A W 1 (0 ∷ []) tt (plain (λ _. u8)) yes, (goes-none 𝓤 H A W 1 (λ _. u32) yes (λ κs x f. refl), tt))
@@ -369,5 +380,4 @@ rows-spec 𝓤 H 𝓜 𝓖 𝓡 =
     (walked 𝓤 H A rows.ended stayed (rows.clauses 𝓤 H A mem run) (WpFn 𝓤 H (𝓣 .C) (𝓣 .Λ) code.function)
     (λ κs. (slice-vals, (uint-vals w32, tt))) (λ κs. (shr-slice-tells (named 0) (κs .0) u8, (uint-tells w32, tt)))
     (λ κs qs bounds a g are. via 𝓤 _ (fst∗ 𝓤 _ (emp 𝓤))
-    (walk 𝓤 H A W mem run (κs .0) (qs .0) (a .0) (a .1 .0) (are .1 .0 .1) 𝓣 (fmOf 𝓤 H (W .laws) 𝓣)
-    reader-known next-known advance-known shown-known opened-known (are .0)))))
+    (walk 𝓤 H A W mem run (κs .0) (qs .0) (a .0) (a .1 .0) (are .1 .0 .1) 𝓣 (fmOf 𝓤 H (W .laws) 𝓣) known (are .0)))))
