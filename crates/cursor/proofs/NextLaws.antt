@@ -24,8 +24,8 @@ use Rattle.ranking_laws.specs.Met.{ruleOf, width-is}
 use Rattle.ranking_laws.specs.Ranked.{ranked-is}
 use Rattle.ranking_laws.specs.Reading.{ListedPosition, afterLast, lastRow, last-number, leftBy, pageBy, page-wide, left-after, listed-after}
 use Rattle.ranking_laws.specs.Session.{cut-is}
-use Rattle.ranking.specs.Serve.{Filled, fitting}
-use Rattle.ranking.specs.declared.serve.Served.{Served}
+use Rattle.page_rows.specs.Serve.{Filled, fitting}
+use Rattle.page_rows.specs.declared.serve.Served.{Served}
 use Rattle.cursor.specs.Left.{left, OnList, Handed}
 use Rattle.cursor.specs.Turns.{left-wide}
 use Rattle.cursor.specs.declared.reading.Cursor.{Cursor}
