@@ -5,8 +5,8 @@ use mathlib.Core.List.{List, []}
 use Prim.Native.Nat.{ℕ, _+_, _*_, _≤_}
 use native.Mathlib.Omega.{arith}
 use lib.ListN.{length, take, drop}
-use Rattle.definitions.specs.Answers.{unless}
-use Rattle.definitions.specs.Catalogue.{Entry, bodySize, rowSize, looking, lookupNumbers, lookupPart, readerTop}
+use Rattle.definitions.specs.Answers.{refusalNumber, unless}
+use Rattle.definitions.specs.Catalogue.{Entry, bodySize, rowSize, looking, lookupNumbers, lookupPart, readerRefusal, readerTop}
 use Rattle.definitions.specs.declared.Refusal.{Refusal}
 use Rattle.definitions.specs.declared.Lookup.{Lookup}
 use Rattle.definitions.specs.declared.Lookup.the-variants.{Body, NoBody}
@@ -46,6 +46,10 @@ abbrev pub partOf : List ℕ → Located → List ℕ
 partOf s (At b) = take (b .size) (drop (b .offset) s)
 partOf s (Missing r) = []
 
+abbrev pub refusalOf : Located → ℕ
+refusalOf (At b) = 0
+refusalOf (Missing r) = refusalNumber r
+
 abbrev pub topOf : Located → ℕ
 topOf (At b) = b .top
 topOf (Missing r) = 0
@@ -58,6 +62,10 @@ module _ (s : List ℕ) (m : ℕ) where
   pub located-part : partOf s (locating s m) ≡ lookupPart s m
   unfolding locating lookupPart
   located-part = unless-map (partOf s) (looking s m) Missing (At (placeOf (entryFor s m)))
+
+  pub located-refusal : refusalOf (locating s m) ≡ readerRefusal s m
+  unfolding locating readerRefusal
+  located-refusal = unless-map refusalOf (looking s m) Missing (At (placeOf (entryFor s m)))
 
   pub located-top : topOf (locating s m) ≡ readerTop s m
   unfolding locating readerTop

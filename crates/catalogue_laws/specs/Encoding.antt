@@ -3,6 +3,7 @@ use mathlib.Core.List.{List, [], _∷_, _++_, map}
 use Prim.Native.Nat.{ℕ, zero, suc, _+_, _-_, _/_, _%_, _^_}
 use lib.ListN.{length, drop, getD}
 use Rattle.definitions.specs.Number.{join}
+use Rattle.definitions.specs.Ranking.{ranksFrom}
 use Rattle.definitions.specs.Catalogue.{numberSize, countSize, offsetSize, entrySize, firstEntry}
 
 -- A number in w bytes.
@@ -16,10 +17,20 @@ pub record Listed : Type 0 where
   pub top : ℕ
   pub rows : List (List ℕ)
 
+-- In a row's numbers: p, q and σ, before the t-values.
+abbrev pub pOf : List ℕ → ℕ
+pOf r = getD r 0 0
+
+abbrev pub qOf : List ℕ → ℕ
+qOf r = getD r 1 0
+
+abbrev pub stepOf : List ℕ → ℕ
+stepOf r = getD r 2 0
+
 unfoldable pub rowBytes : ℕ → List ℕ → List ℕ
 rowBytes m r =
     let w : ℕ = numberSize m in
-    bytesOf w (getD r 0 0 - 2 ^ m) ++ bytesOf w (getD r 1 0) ++ bytesOf w (getD r 2 0) ++ drop 3 r
+    bytesOf w (pOf r - 2 ^ m) ++ bytesOf w (qOf r) ++ bytesOf w (stepOf r) ++ drop ranksFrom r
 
 unfoldable pub bodyBytes : Listed → List ℕ
 bodyBytes l = join (map (rowBytes (l .degree)) (l .rows))

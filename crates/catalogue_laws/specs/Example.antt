@@ -2,17 +2,15 @@
 -- and a reader hands out its four rows and then the end. Assumes nothing.
 use mathlib.Core.Path.{_≡_, refl}
 use mathlib.Core.Bool.{true}
-use mathlib.Core.List.{List, [], _∷_}
+use mathlib.Core.List.{List, [], _∷_, map}
 use Prim.Native.Nat.{ℕ}
 use Rattle.definitions.specs.Ranking.{ranked}
 use Rattle.definitions.specs.Examples.{calls}
-use Rattle.definitions.specs.Answers.{unless}
+use Rattle.definitions.specs.Answers.{unless, nextRowValues}
 use Rattle.definitions.specs.Catalogue.{numberAt, numberSize, countSize, entrySize, rowSize, entryAt, behindEntries, rowForm, entryForm, entriesForm}
 use Rattle.definitions.specs.Catalogue.{catalogueForm, opening, entryFrom, entryOf, looking, lookupNumbers, lookupPart, readerTop, atRow, rowAt, nextRow}
 use Rattle.definitions.specs.Catalogue.{nextPlace}
 use Rattle.catalogue_laws.specs.Encoding.{bytesOf, rowBytes, bodyBytes, entryBytes, contentsBytes, behindLists, catalogueBytes}
-use Rattle.definitions.specs.declared.NextRow.{NextRow}
-use Rattle.definitions.specs.declared.NextRow.the-variants.{Found, End}
 use Rattle.definitions.specs.declared.Opening.the-variants.{Entries}
 use Rattle.definitions.specs.declared.Lookup.the-variants.{Body}
 use Rattle.catalogue_laws.specs.Reader.{handsOut}
@@ -50,10 +48,11 @@ unfolding printed form lookupNumbers
 printed-numbers = refl
 
 -- p, q and the step, with t(3) and t(4).
-abbrev row : ℕ → ℕ → ℕ → NextRow
-row p q step = Found (record { p = p; q = q; step = step; t3 = 1; t4 = 1; t5 = 0; t6 = 0; t7 = 0; t8 = 0 })
+abbrev row : ℕ → ℕ → ℕ → List ℕ
+row p q step = 0 ∷ p ∷ q ∷ step ∷ 1 ∷ 1 ∷ 0 ∷ 0 ∷ 0 ∷ 0 ∷ []
 
-pub printed-rows : handsOut 5 3 (readerTop printed 3) (lookupPart printed 3) 0 ≡ row 11 4 2 ∷ row 11 7 5 ∷ row 13 5 3 ∷ row 13 7 4 ∷ End ∷ []
+pub printed-rows : map nextRowValues (handsOut 5 3 (readerTop printed 3) (lookupPart printed 3) 0)
+    ≡ row 11 4 2 ∷ row 11 7 5 ∷ row 13 5 3 ∷ row 13 7 4 ∷ (0 ∷ []) ∷ []
 unfolding printed form handsOut readerTop lookupPart atRow rowAt nextRow nextPlace
 printed-rows = refl
 

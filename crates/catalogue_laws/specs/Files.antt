@@ -4,7 +4,7 @@
 use mathlib.Core.Path.{_≡_, refl, sym, ap, _∙_, subst}
 use mathlib.Core.Bool.{true}
 use mathlib.Core.List.{List, [], _∷_, _++_, map}
-use Prim.Native.Nat.{ℕ, _+_, _-_, _*_, _^_, _<_, _≤_}
+use Prim.Native.Nat.{ℕ, _+_, _*_, _^_, _<_, _≤_}
 use native.Mathlib.Nat.{add-zero, mul-le-mul-left}
 use native.Mathlib.Omega.{arith}
 use lib.ListN.{length, length-append}
@@ -15,7 +15,7 @@ use Rattle.definitions.specs.Catalogue.{byteAt, numberAt, countSize, offsetSize
 use Rattle.definitions.specs.Catalogue.{contentsEnd, mostEntries, bodySize, rowForm, entryForm, entriesForm, catalogueForm}
 use Rattle.number_laws.specs.Bounds.{LawfulDegree, LawfulTop, lawfulDegree-is, lawfulTop-is}
 use Rattle.number_laws.specs.Every.{every-in}
-use Rattle.catalogue_laws.specs.Sizes.{entry-size-is, entry-size-most, row-size-most}
+use Rattle.catalogue_laws.specs.Sizes.{longestEntry, longestRowSize, longestBody, count-most, entry-size-is, entry-size-most, row-size-most}
 use Rattle.catalogue_laws.specs.Encoding.{bytesOf, Listed, bodyBytes, entryBytes, contentsBytes, behindLists, catalogueBytes}
 use Rattle.catalogue_laws.specs.Form.{entry-rows, catalogue-entries}
 use Rattle.catalogue_laws.specs.Bytes.{Stands, stands-first, stands-rest, stands-whole, stands-byte, stands-number, bytes-length}
@@ -51,15 +51,14 @@ pub lists-few : {ls : List Listed} → LawfulLists 0 ls → length ls ≤ mostEn
 lists-few none = omega arith
 lists-few (more a h f) = omega (arith, h .lawful-degree .low, lists-most (h .lawful-degree .high) f)
 
--- A list has fewer than 2^16 rows of at most 18 bytes.
-body-most : (l : Listed) → LawfulListed l → length (bodyBytes l) ≤ 65536 * 18
-unfolding countSize
+-- The rows of a list are few and short.
+body-most : (l : Listed) → LawfulListed l → length (bodyBytes l) ≤ longestBody
 body-most l h =
     let size = row-size-most (l .degree) (l .top) (h .lawful-top .high) in
-    let most : length (l .rows) * rowSize (l .degree) (l .top) ≤ length (l .rows) * 18 = mul-le-mul-left (length (l .rows)) size in
-    omega (arith, h .few, body-length l h)
+    let most : length (l .rows) * rowSize (l .degree) (l .top) ≤ length (l .rows) * longestRowSize = mul-le-mul-left (length (l .rows)) size in
+    omega (arith, h .few, count-most (l .degree), body-length l h)
 
-bodies-most : {last : ℕ} {ls : List Listed} → LawfulLists last ls → length (bodiesBytes ls) ≤ length ls * (65536 * 18)
+bodies-most : {last : ℕ} {ls : List Listed} → LawfulLists last ls → length (bodiesBytes ls) ≤ length ls * longestBody
 bodies-most none = omega arith
 bodies-most {ls = l ∷ ls} (more a h f) = omega (arith, bodies-most f, body-most l h, length-append (bodyBytes l) (bodiesBytes ls))
 
@@ -76,7 +75,7 @@ contents-length (l ∷ ls) at i =
     omega (arith, length-append (entryBytes l at) (contentsBytes ls n), entry-length l at) in
     e ∙ contents-length ls n (i + entrySize (l .degree))
 
-behind-lists-most : (ls : List Listed) (i : ℕ) → behindLists ls i ≤ i + length ls * 10
+behind-lists-most : (ls : List Listed) (i : ℕ) → behindLists ls i ≤ i + length ls * longestEntry
 unfolding behindLists
 behind-lists-most [] i = omega arith
 behind-lists-most (l ∷ ls) i = omega (arith, behind-lists-most ls (i + entrySize (l .degree)), entry-size-most (l .degree))

@@ -4,6 +4,7 @@ pub mod Sizes
 pub mod Form
 pub mod Reading
 pub mod Lookup
+pub mod Missing
 pub mod Outcome
 pub mod Reader
 pub mod Encoding

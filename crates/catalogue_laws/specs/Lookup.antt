@@ -1,26 +1,26 @@
 -- Lookups: when opening refuses, and where the entry of a degree is.
 -- The entry by the recursion that looks for it; in a file of the form the entry that is found is lawful. Assumes nothing.
-use mathlib.Core.Path.{_≡_, refl, _∙_}
-use mathlib.Core.Bool.{Bool, true, false}
+use mathlib.Core.Path.{_≡_, refl, ap, _∙_}
+use mathlib.Core.Bool.{Bool, true, false, not}
 use mathlib.Core.List.{List}
 use Prim.Native.Nat.{ℕ, zero, suc, _-_, _<_, _≤_}
 use native.Mathlib.Omega.{arith}
 use lib.Dec.{eqb}
 use borrow.Author.Tests.{eqb-true, eqb-false, eq-eqb, ne-eqb}
-use Rattle.definitions.specs.Answers.{unless}
 use Rattle.definitions.specs.Catalogue.{byteAt, entryAt, firstEntry, behindEntry, behindEntries, contentsEnd, entriesForm, catalogueForm, opening, entryFrom}
 use Rattle.definitions.specs.Catalogue.{entryOf}
 use Rattle.definitions.specs.declared.Refusal.the-variants.{IllFormedCatalogue}
 use Rattle.definitions.specs.declared.Opening.the-variants.{Entries, Closed}
+use Rattle.answer_laws.specs.Unless.{here, passes, at-end, unless-refused, unless-given}
 use Rattle.catalogue_laws.specs.Form.{LawfulEntry, entries-out, entry-at-degree, behind-least, catalogue-form}
 
 pub opening-closed : (s : List ℕ) → catalogueForm s ≡ false → opening s ≡ Closed IllFormedCatalogue
-unfolding opening unless
-opening-closed s e = rw e
+unfolding opening
+opening-closed s e = unless-refused _ _ (here (ap not e))
 
 pub opening-entries : (s : List ℕ) → catalogueForm s ≡ true → opening s ≡ Entries (byteAt s 0)
-unfolding opening unless
-opening-entries s e = rw e
+unfolding opening
+opening-entries s e = unless-given _ _ (passes (ap not e) at-end)
 
 -- ---- the entry of a degree, as a walk looks for it
 

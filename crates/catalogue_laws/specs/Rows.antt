@@ -5,12 +5,10 @@ use mathlib.Core.List.{List, [], _∷_}
 use Prim.Native.Nat.{ℕ, zero, suc, _≤_}
 use native.Mathlib.Omega.{arith}
 use lib.ListN.{length, take, getD}
+use Rattle.definitions.specs.Answers.{rowNumbers}
 use Rattle.definitions.specs.Ranking.{largestTop, longestRow}
 use Rattle.definitions.specs.declared.Row.{Row}
-
--- All nine numbers of a row's fields.
-abbrev pub rowNumbers : Row → List ℕ
-rowNumbers r = r .p ∷ r .q ∷ r .step ∷ r .t3 ∷ r .t4 ∷ r .t5 ∷ r .t6 ∷ r .t7 ∷ r .t8 ∷ []
+use Rattle.catalogue_laws.specs.Encoding.{pOf, qOf, stepOf}
 
 -- The T + 1 numbers of a row.
 abbrev pub numbersUpTo : ℕ → Row → List ℕ
@@ -19,9 +17,9 @@ numbersUpTo top r = take (suc top) (rowNumbers r)
 -- The numbers of a row, in a row's fields.
 abbrev pub rowOf : List ℕ → Row
 rowOf r = record {
-  p = getD r 0 0;
-  q = getD r 1 0;
-  step = getD r 2 0;
+  p = pOf r;
+  q = qOf r;
+  step = stepOf r;
   t3 = getD r 3 0;
   t4 = getD r 4 0;
   t5 = getD r 5 0;

@@ -6,6 +6,7 @@ use Prim.Native.Nat.{ℕ, zero, suc, _+_, _-_, _*_, _^_, _<_, _≤_}
 use native.Mathlib.Nat.{mul-le-mul-left, mul-le-mul-right, suc-mul}
 use native.Mathlib.Omega.{arith}
 use lib.Pow.{pow-mono}
+use Rattle.definitions.specs.Generator.{largestDegree}
 use Rattle.definitions.specs.Ranking.{leastTop, largestTop}
 use Rattle.definitions.specs.Catalogue.{numberSize, countSize, offsetSize, entrySize, numbersSize, rowSize}
 use Rattle.number_laws.specs.Bounds.{LawfulDegree, lead-high}
@@ -13,6 +14,20 @@ use Rattle.number_laws.specs.Bounds.{LawfulDegree, lead-high}
 -- The most bytes of a number that is read into a machine word of 32 digits.
 abbrev pub widest : ℕ
 widest = 4
+
+-- Bounds that hold for every degree: of an entry and of a row, in bytes, and of a row count.
+abbrev pub longestEntry : ℕ
+longestEntry = 2 + widest + offsetSize
+
+abbrev pub longestRowSize : ℕ
+longestRowSize = 3 * widest + (suc largestTop - leastTop)
+
+abbrev pub rowCounts : ℕ
+rowCounts = 2 ^ 16
+
+-- A body, in bytes.
+abbrev pub longestBody : ℕ
+longestBody = rowCounts * longestRowSize
 
 module _ (m : ℕ) where
   pub number-size-least : 1 ≤ numberSize m
@@ -26,7 +41,7 @@ module _ (m : ℕ) where
   -- p without its leading term, q and σ are below 2^m.
   pub number-fits : LawfulDegree m → 2 ^ m ≤ 256 ^ numberSize m
   unfolding numberSize
-  number-fits h = pow-mono {i = m} {j = 16} (h .high)
+  number-fits h = pow-mono {i = m} {j = largestDegree} (h .high)
 
   -- The leading term and a number of the degree's bytes together fit a machine word of 32 digits.
   pub lead-room : LawfulDegree m → (n : ℕ) → n < 2 ^ (8 * numberSize m) → 2 ^ m + n < 2 ^ 32
@@ -37,6 +52,10 @@ module _ (m : ℕ) where
   unfolding countSize
   count-size-most = omega arith
 
+  pub count-most : 256 ^ countSize m ≤ rowCounts
+  unfolding countSize
+  count-most = omega arith
+
   pub entry-size-is : entrySize m ≡ 2 + countSize m + offsetSize
   unfolding entrySize
   entry-size-is = refl
@@ -45,7 +64,7 @@ module _ (m : ℕ) where
   unfolding entrySize
   entry-size-least = omega arith
 
-  pub entry-size-most : entrySize m ≤ 10
+  pub entry-size-most : entrySize m ≤ longestEntry
   unfolding entrySize
   entry-size-most = omega (arith, count-size-most)
 
@@ -58,7 +77,7 @@ module _ (m : ℕ) where
     unfolding rowSize
     row-size-least = omega (arith, number-size-least)
 
-    pub row-size-most : top ≤ largestTop → rowSize m top ≤ 18
+    pub row-size-most : top ≤ largestTop → rowSize m top ≤ longestRowSize
     unfolding rowSize
     row-size-most h = omega (arith, number-size-most)
 
@@ -66,7 +85,7 @@ module _ (m : ℕ) where
     pub body-size-fits : top ≤ largestTop → (rows : ℕ) → rows < 2 ^ 32 → rows * rowSize m top < 2 ^ 64
     body-size-fits h rows k =
         let size = row-size-most h in
-        let most : rows * rowSize m top ≤ rows * 18 = mul-le-mul-left rows size in
+        let most : rows * rowSize m top ≤ rows * longestRowSize = mul-le-mul-left rows size in
         omega arith
 
 -- ---- a walk over n parts of w bytes each from `at` on, the last part first

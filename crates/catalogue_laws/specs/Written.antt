@@ -12,12 +12,12 @@ use lib.ListN.{length, getD, drop, length-append, length-drop, List·getD-eq-def
 use lib.Seq.{getD-drop}
 use borrow.Author.Tests.{le-leb, lt-ltb}
 use Rattle.definitions.specs.Number.{every, join}
-use Rattle.definitions.specs.Ranking.{leastTop}
+use Rattle.definitions.specs.Ranking.{leastTop, ranksFrom}
 use Rattle.definitions.specs.Catalogue.{byteAt, numberAt, numberSize, numbersSize, rowSize, rowForm, tAt, rowAt}
 use Rattle.number_laws.specs.Bounds.{LawfulDegree, LawfulTop}
 use Rattle.number_laws.specs.Every.{every-in}
 use Rattle.catalogue_laws.specs.Sizes.{number-fits, row-size-is}
-use Rattle.catalogue_laws.specs.Encoding.{bytesOf, rowBytes}
+use Rattle.catalogue_laws.specs.Encoding.{bytesOf, pOf, qOf, stepOf, rowBytes}
 use Rattle.catalogue_laws.specs.Rows.{rowOf}
 use Rattle.catalogue_laws.specs.Form.{numbersForm, row-values}
 use Rattle.catalogue_laws.specs.Reading.{t-above, t-within}
@@ -26,10 +26,10 @@ use Rattle.catalogue_laws.specs.Bytes.{Stands, stands-first, stands-rest
 -- A row of degree m and top dimension T that a catalogue can hold: p with its leading term, q and σ below 2^m, each t at most m.
 pub record LawfulRow (m top : ℕ) (r : List ℕ) : Type 0 where
   pub width : length r ≡ suc top
-  pub p-least : 2 ^ m ≤ getD r 0 0
-  pub p-most : getD r 0 0 < 2 ^ suc m
-  pub q-most : getD r 1 0 < 2 ^ m
-  pub step-most : getD r 2 0 < 2 ^ m
+  pub p-least : 2 ^ m ≤ pOf r
+  pub p-most : pOf r < 2 ^ suc m
+  pub q-most : qOf r < 2 ^ m
+  pub step-most : stepOf r < 2 ^ m
   pub t-most : (s : ℕ) → leastTop ≤ s → s ≤ top → getD r s 0 ≤ m
 
 pub row-length : (m top : ℕ) (r : List ℕ) → leastTop ≤ top → LawfulRow m top r → length (rowBytes m r) ≡ rowSize m top
@@ -42,52 +42,52 @@ module _ (m top : ℕ) (r : List ℕ) (s : List ℕ) (at : ℕ) where
   w = numberSize m
 
   abbrev low : List ℕ
-  low = bytesOf w (getD r 0 0 - 2 ^ m)
+  low = bytesOf w (pOf r - 2 ^ m)
 
   abbrev second : List ℕ
-  second = bytesOf w (getD r 1 0)
+  second = bytesOf w (qOf r)
 
   abbrev third : List ℕ
-  third = bytesOf w (getD r 2 0)
+  third = bytesOf w (stepOf r)
 
   module _ (degree : LawfulDegree m) (tall : LawfulTop top) (h : LawfulRow m top r) (stands : Stands s at (rowBytes m r)) where
     low-stands : Stands s at low
     unfolding rowBytes
-    low-stands = stands-first s at low second (stands-first s at (low ++ second) third (stands-first s at _ (drop 3 r) stands))
+    low-stands = stands-first s at low second (stands-first s at (low ++ second) third (stands-first s at _ (drop ranksFrom r) stands))
 
     second-stands : Stands s (at + w) second
     unfolding rowBytes
     second-stands =
-        subst (λ (n : ℕ). Stands s (at + n) second) (bytes-length w (getD r 0 0 - 2 ^ m))
-        (stands-rest s at low second (stands-first s at (low ++ second) third (stands-first s at _ (drop 3 r) stands)))
+        subst (λ (n : ℕ). Stands s (at + n) second) (bytes-length w (pOf r - 2 ^ m))
+        (stands-rest s at low second (stands-first s at (low ++ second) third (stands-first s at _ (drop ranksFrom r) stands)))
 
     third-stands : Stands s (at + 2 * w) third
     unfolding rowBytes
     third-stands =
         let e : length (low ++ second) ≡ 2 * w = simp (length-append, bytes-length) (omega arith) in
-        subst (λ (n : ℕ). Stands s (at + n) third) e (stands-rest s at (low ++ second) third (stands-first s at _ (drop 3 r) stands))
+        subst (λ (n : ℕ). Stands s (at + n) third) e (stands-rest s at (low ++ second) third (stands-first s at _ (drop ranksFrom r) stands))
 
-    values-stand : Stands s (at + numbersSize m) (drop 3 r)
+    values-stand : Stands s (at + numbersSize m) (drop ranksFrom r)
     unfolding rowBytes
     values-stand =
         let e : length ((low ++ second) ++ third) ≡ numbersSize m = simp (length-append, bytes-length) (omega arith) in
-        subst (λ (n : ℕ). Stands s (at + n) (drop 3 r)) e (stands-rest s at ((low ++ second) ++ third) (drop 3 r) stands)
+        subst (λ (n : ℕ). Stands s (at + n) (drop ranksFrom r)) e (stands-rest s at ((low ++ second) ++ third) (drop ranksFrom r) stands)
 
-    low-below : getD r 0 0 - 2 ^ m < 2 ^ m
+    low-below : pOf r - 2 ^ m < 2 ^ m
     low-below = omega (arith, h .p-least, h .p-most)
 
-    pub low-is : numberAt w s at ≡ getD r 0 0 - 2 ^ m
-    low-is = stands-number w (getD r 0 0 - 2 ^ m) s at (omega (arith, number-fits m degree, low-below)) low-stands
+    pub low-is : numberAt w s at ≡ pOf r - 2 ^ m
+    low-is = stands-number w (pOf r - 2 ^ m) s at (omega (arith, number-fits m degree, low-below)) low-stands
 
-    pub q-is : numberAt w s (at + w) ≡ getD r 1 0
-    q-is = stands-number w (getD r 1 0) s (at + w) (omega (arith, number-fits m degree, h .q-most)) second-stands
+    pub q-is : numberAt w s (at + w) ≡ qOf r
+    q-is = stands-number w (qOf r) s (at + w) (omega (arith, number-fits m degree, h .q-most)) second-stands
 
-    pub step-is : numberAt w s (at + 2 * w) ≡ getD r 2 0
-    step-is = stands-number w (getD r 2 0) s (at + 2 * w) (omega (arith, number-fits m degree, h .step-most)) third-stands
+    pub step-is : numberAt w s (at + 2 * w) ≡ stepOf r
+    step-is = stands-number w (stepOf r) s (at + 2 * w) (omega (arith, number-fits m degree, h .step-most)) third-stands
 
     pub t-is : (k : ℕ) → k < suc top - leastTop → byteAt s (at + numbersSize m + k) ≡ getD r (3 + k) 0
     t-is k l =
-        stands-byte s (at + numbersSize m) (drop 3 r) k values-stand (rw length-drop (omega (arith, h .width))) ∙ getD-drop 3 r k 0
+        stands-byte s (at + numbersSize m) (drop ranksFrom r) k values-stand (rw length-drop (omega (arith, h .width))) ∙ getD-drop ranksFrom r k 0
 
     numbers-written : numbersForm m s at ≡ true
     unfolding every
@@ -117,7 +117,7 @@ module _ (m top : ℕ) (r : List ℕ) (s : List ℕ) (at : ℕ) where
     pub row-written : rowAt m top s at ≡ rowOf r
     unfolding rowAt
     row-written =
-        let p : 2 ^ m + numberAt w s at ≡ getD r 0 0 = omega (arith, low-is, h .p-least) in
+        let p : 2 ^ m + numberAt w s at ≡ pOf r = omega (arith, low-is, h .p-least) in
         let t₃ = t-read 3 (omega arith) in
         let t₄ = t-read 4 (omega arith) in
         let t₅ = t-read 5 (omega arith) in

@@ -1,5 +1,5 @@
--- A reader in a walk by hand: its type over a signature's one lifetime, its four fields, how it is taken apart, and how its fields are passed on.
--- A reader is Copy, so what it owns is had twice: once as what its fields own together, which a function on the slice and the numbers asks
+-- A reader in a walk by hand: its type over a signature's one lifetime, its fields, how it is taken apart, and how those behind its number are passed on.
+-- A reader is Copy, so what it owns is had twice: once as what these fields own together, which a function on the slice and the numbers asks
 -- for, and once whole, which is kept for the exit. Of the function on the fields a walk knows its contract alone. Assumes nothing.
 use mathlib.Core.Path.{_≡_}
 use mathlib.Core.List.{List, [], _∷_}
@@ -41,12 +41,15 @@ Declares κs = T.the-type (namedLft 1 0 tt κs)
 abbrev pub laws : (κs : Lfts 1) → LL.Laws (Declares κs)
 laws κs = T′.the-laws (namedLft 1 0 tt κs)
 
--- The fields' values, and their machine values.
+-- The values of the fields behind the number, their machine values, and all values.
 abbrev pub fields : Reader → RefT (List ℕ) × (ℕ × (ℕ × (ℕ × Unit {0})))
 fields d = (d .body, (d .degree, (d .top, (d .place, tt))))
 
 abbrev pub machine : Reader → List Val × (List Val × (List Val × (List Val × Unit {0})))
 machine d = (sliceVal (d .body .ptr) (length (d .body .now)) ∷ [], (vint w32 (d .degree) ∷ [], (vint w32 (d .top) ∷ [], (vint w64 (d .place) ∷ [], tt))))
+
+abbrev pub all-fields : Reader → ℕ × (RefT (List ℕ) × (ℕ × (ℕ × (ℕ × Unit {0}))))
+all-fields d = (d .refusal, fields d)
 
 module _ {M : Type 1} (𝓤 : URA M) (H : Heap 𝓤) (A : Atoms 𝓤) (W : Given 𝓤 H A) (κ : Lft) (d : Reader) where
   abbrev pub Whole : Fml
@@ -62,8 +65,8 @@ module _ {M : Type 1} (𝓤 : URA M) (H : Heap 𝓤) (A : Atoms 𝓤) (W : Given
   taken-apart =
       qed W (‵ (owns (Held (κ, tt) ∷ []) (d, tt) (T′.lowered d ∷ [], tt)) ∷ []) ∵
       fsplit ! $ move ! (1 ∷ []) $ drop ! $ use1 W (‵ Whole ⊛ ‵ Whole) twice $ split ! $
-      use1 W (given (T′.lowered d ∷ [] ≡ T′.lowered d ∷ []) (‵ (all-own (Declares (κ, tt) .parts) (laws (κ, tt)) (fields d))))
-      (own-open 𝓤 H A W (Declares (κ, tt)) (laws (κ, tt)) (fields d) (T′.lowered d)) $ learn ! (λ _. done !)
+      use1 W (given (T′.lowered d ∷ [] ≡ T′.lowered d ∷ []) (‵ (all-own (Declares (κ, tt) .parts) (laws (κ, tt)) (all-fields d))))
+      (own-open 𝓤 H A W (Declares (κ, tt)) (laws (κ, tt)) (all-fields d) (T′.lowered d)) $ learn ! (λ _. fsplit ! $ drop ! $ done !)
 
 -- ---- places in a walk's list
 

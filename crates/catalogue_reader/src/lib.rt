@@ -4,18 +4,20 @@ pub mod opening;
 use definitions::NextRow;
 use definitions::Reader;
 ghost use mathlib.Core.Path.{_≡_};
-ghost use Rattle.definitions.specs.Catalogue.{lookupPart, readerTop, nextRow, nextPlace};
+ghost use Rattle.definitions.specs.Catalogue.{lookupPart, readerRefusal, readerTop, nextRow, nextPlace};
 
-// A reader of a degree's body, at its first row; over the empty part, and so at the end, where the lookup is refused.
+// A reader of a degree's body, at its first row. Where the lookup is refused it has the number and the empty part, and is at the end.
 pub fn reader<'a>(file: &'a [u8], degree: u32) -> Reader<'a>
-    ensures { λ r. ⌜ (now (r .body) ≡ lookupPart (now (file .entry)) degree) × (r .degree ≡ degree) × (r .top ≡ readerTop (now (file .entry)) degree) × (r .place ≡ 0) ⌝ }
+    ensures { λ r. ⌜ (r .refusal ≡ readerRefusal (now (file .entry)) degree) × (now (r .body) ≡ lookupPart (now (file .entry)) degree) × (r .degree ≡ degree) × (r .top ≡ readerTop (now (file .entry)) degree) × (r .place ≡ 0) ⌝ }
 {
     let found = opening::opened(file, degree);
+    let refusal = found.refusal;
     let offset = found.offset;
     let size = found.size;
     let top = found.top;
     let body = opening::cut(file, offset, size);
     Reader {
+        refusal,
         body,
         degree,
         top,
@@ -32,13 +34,15 @@ pub fn next<'a>(at: Reader<'a>) -> NextRow
 
 // The reader behind that row; at the end it stays.
 pub fn advance<'a>(at: Reader<'a>) -> Reader<'a>
-    ensures { λ r. ⌜ (r .body ≡ at .entry .body) × (r .degree ≡ at .entry .degree) × (r .top ≡ at .entry .top) × (r .place ≡ nextPlace (at .entry .degree) (at .entry .top) (now (at .entry .body)) (at .entry .place)) ⌝ }
+    ensures { λ r. ⌜ (r .refusal ≡ at .entry .refusal) × (r .body ≡ at .entry .body) × (r .degree ≡ at .entry .degree) × (r .top ≡ at .entry .top) × (r .place ≡ nextPlace (at .entry .degree) (at .entry .top) (now (at .entry .body)) (at .entry .place)) ⌝ }
 {
+    let refusal = at.refusal;
     let body = at.body;
     let degree = at.degree;
     let top = at.top;
     let place = catalogue_rows::place_behind(body, degree, top, at.place);
     Reader {
+        refusal,
         body,
         degree,
         top,

@@ -1,25 +1,39 @@
-// What a reader is made of: the place of its body in the file, with T, and the part itself.
+// What a reader is made of: the number of the refusal, the place of its body in the file, with T, and the part itself.
 use catalogue::seek;
-use catalogue::seek::BodyPlace;
 use catalogue::seek::Located;
 ghost use mathlib.Core.Path.{_≡_};
 ghost use Prim.Native.Nat.{_+_, _≤_};
 ghost use lib.ListN.{length, take, drop};
 ghost use Rattle.catalogue_reader.specs.Opened.{Opened};
 
-// The place of a degree's body; nowhere, with T = 0, where the lookup is refused.
-pub fn opened(file: &[u8], degree: u32) -> BodyPlace
+// The number of the refusal, 0 where there is none; the part's place in the file, its size, and T.
+pub struct OpenedPart {
+    pub refusal: u32,
+    pub offset: usize,
+    pub size: usize,
+    pub top: u32,
+}
+
+// The place of a degree's body; a part of no bytes, with T = 0, beside the number where the lookup is refused.
+pub fn opened(file: &[u8], degree: u32) -> OpenedPart
     ensures { λ r. ⌜ Opened (now (file .entry)) degree r ⌝ }
 {
     match seek::locate(file, degree) {
-        Located::At(found) => found,
-        Located::Missing(_) => BodyPlace {
-            offset: 0,
-            size: 0,
-            stride: 0,
-            top: 0,
-            rows: 0,
+        Located::At(found) => OpenedPart {
+            refusal: 0,
+            offset: found.offset,
+            size: found.size,
+            top: found.top,
         },
+        Located::Missing(refusal) => {
+            let number = answers::refusal_number(refusal);
+            OpenedPart {
+                refusal: number,
+                offset: 0,
+                size: 0,
+                top: 0,
+            }
+        }
     }
 }
 

@@ -2,13 +2,12 @@
 -- Assumes nothing.
 use mathlib.Core.List.{List, [], _∷_}
 use Prim.Native.Nat.{ℕ, _+_}
-use Rattle.definitions.specs.Answers.{refusalNumber}
+use Rattle.definitions.specs.Answers.{refusalNumber, rowNumbers}
 use Rattle.definitions.specs.declared.NextRow.{NextRow}
 use Rattle.definitions.specs.declared.NextRow.the-variants.{Found, End}
 use Rattle.catalogue.specs.declared.seek.BodyPlace.{BodyPlace}
 use Rattle.catalogue.specs.declared.seek.Located.{Located}
 use Rattle.catalogue.specs.declared.seek.Located.the-variants.{At, Missing}
-use Rattle.catalogue_laws.specs.Rows.{rowNumbers}
 use Rattle.results.specs.Results.{value}
 use Rattle.catalogue_results.specs.declared.FenyurkaCatalogue.{FenyurkaCatalogue}
 use Rattle.catalogue_results.specs.declared.FenyurkaBody.{FenyurkaBody}

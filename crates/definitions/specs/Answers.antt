@@ -1,5 +1,5 @@
 -- Refusals: their numbers, the situations in which they are given, and the values of each answer. Assumes nothing.
-use Rattle.definitions.specs.Base.{Bool, true, false, List, [], _∷_, ℕ, Refusal, WrongDegree, WrongDimension, IllFormedPair, NotPrimitive, QuotientNotLinear, StepNotCoprime, ShortSlice, BeyondPeriod, IllFormedCatalogue, DegreeMissing, Judgement, Accepted, Rejected, Uniformity, Value, Undefined, PageAnswer, Page, NoPage, PointsAnswer, Written, NotWritten, Opening, Entries, Closed, Lookup, Body, NoBody}
+use Rattle.definitions.specs.Base.{Bool, true, false, List, [], _∷_, ℕ, Refusal, WrongDegree, WrongDimension, IllFormedPair, NotPrimitive, QuotientNotLinear, StepNotCoprime, ShortSlice, BeyondPeriod, IllFormedCatalogue, DegreeMissing, Judgement, Accepted, Rejected, Uniformity, Value, Undefined, PageAnswer, Page, NoPage, PointsAnswer, Written, NotWritten, Opening, Entries, Closed, Lookup, Body, NoBody, Row, NextRow, Found, End}
 use Rattle.definitions.specs.Number.{bit}
 
 -- Document 01's number of each refusal.
@@ -52,3 +52,12 @@ openingValues (Closed r) = refusalNumber r ∷ []
 abbrev pub lookupValues : Lookup → List ℕ
 lookupValues (Body top rows) = 0 ∷ top ∷ rows ∷ []
 lookupValues (NoBody r) = refusalNumber r ∷ []
+
+-- p, q, σ, t(3) .. t(8).
+abbrev pub rowNumbers : Row → List ℕ
+rowNumbers r = r .p ∷ r .q ∷ r .step ∷ r .t3 ∷ r .t4 ∷ r .t5 ∷ r .t6 ∷ r .t7 ∷ r .t8 ∷ []
+
+-- No row is refused; at the end there are no values.
+abbrev pub nextRowValues : NextRow → List ℕ
+nextRowValues (Found r) = 0 ∷ rowNumbers r
+nextRowValues End = 0 ∷ []

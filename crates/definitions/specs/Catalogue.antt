@@ -1,7 +1,7 @@
 -- The catalogue: its form, opening it, looking a degree up, reading a body row by row. Assumes nothing.
 use Rattle.definitions.specs.Base.{Bool, true, false, cond, not, _&&_, List, [], _∷_, ℕ, zero, suc, _+_, _-_, _*_, _%_, _^_, eqb, leb, ltb, length, take, drop, getD, Refusal, WrongDegree, IllFormedCatalogue, DegreeMissing, Opening, Entries, Closed, Lookup, Body, NoBody, Row, NextRow, Found, End}
 use Rattle.definitions.specs.Number.{every}
-use Rattle.definitions.specs.Answers.{Situation, situation, unless}
+use Rattle.definitions.specs.Answers.{refusalNumber, Situation, situation, unless}
 use Rattle.definitions.specs.Generator.{leastDegree, largestDegree, lawfulDegree}
 use Rattle.definitions.specs.Ranking.{leastTop, lawfulTop}
 
@@ -137,7 +137,11 @@ unfoldable pub lookupPart : List ℕ → ℕ → List ℕ
 lookupPart s m =
     unless (looking s m) (λ (n : Refusal). []) (take (bodySize (entryAt s (entryOf s m))) (drop (entryAt s (entryOf s m) .offset) s))
 
--- The top dimension of a reader that is opened with a degree, over the part that a lookup gives; 0 where the lookup is refused.
+-- A reader that is opened with a degree has the part that a lookup gives. Its number: that of the lookup's refusal; 0 where there is none.
+unfoldable pub readerRefusal : List ℕ → ℕ → ℕ
+readerRefusal s m = unless (looking s m) refusalNumber 0
+
+-- Its top dimension; 0 where the lookup is refused.
 unfoldable pub readerTop : List ℕ → ℕ → ℕ
 readerTop s m = unless (looking s m) (λ (n : Refusal). 0) (entryAt s (entryOf s m) .top)
 

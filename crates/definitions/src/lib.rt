@@ -88,8 +88,9 @@ pub enum NextRow {
     End,
 }
 
-// A catalogue's reader: the lent body, its degree and top dimension, and the place of the next row.
+// A catalogue's reader: the number of the refusal, 0 where there is none; the lent body, its degree and top dimension, and the place of the next row.
 pub struct Reader<'a> {
+    pub refusal: u32,
     pub body: &'a [u8],
     pub degree: u32,
     pub top: u32,

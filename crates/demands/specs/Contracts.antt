@@ -36,6 +36,7 @@ use Rattle.demands.specs.Arguments.{second, fifth}
 use Rattle.demands.specs.Demand1.{Exact, LowestGiven, numberOf, formSituation, opening-exact, looking-empty, looking-exact, looking-lowest}
 use Rattle.demands.specs.Demand1.{judging-exact, judging-lowest, measuring-exact, measuring-lowest}
 use Rattle.demands.specs.Demand1.{paging-exact, paging-lowest, paging-keeps, pointing-exact, pointing-lowest, pointing-keeps}
+use Rattle.demands.specs.Catalogues.{reading-exact}
 use Rattle.demands.specs.Demand2.{Conditions, accepted-exactly, uniformity-smallest, period-written}
 use Rattle.demands.specs.Demand3.{pages-whole}
 use Rattle.generator.proofs.judge.Reads as judge
@@ -105,8 +106,8 @@ pub body-empty : (κs : _) (file : _) (m : ℕ) (r : _) (e : _) → body.Post κ
     → (n : Refusal) → lookupNumbers (now file) m ≡ NoBody n → now r ≡ []
 body-empty κs file m r e h n d = h ∙ looking-empty (now file) m n d .0
 
--- A reader opened there has that empty part and T = 0, so it is at the end. The toolchain gives no `Post` for a struct that holds a slice: this is
--- the clause itself, in any model of the logic.
+-- A reader has the refusals of a lookup: its number follows the same situations. Refused, it has the empty part and T = 0, so it is at the end.
+-- The toolchain gives no `Post` for a struct that holds a slice: this is the clause itself, in any model of the logic.
 module _ (w : World) (κs : _) (a : ArgsD reader.signature κs) where
   abbrev file : List ℕ
   file = now (a .0)
@@ -114,12 +115,16 @@ module _ (w : World) (κs : _) (a : ArgsD reader.signature κs) where
   abbrev degree : ℕ
   degree = second a
 
+  pub reader-exact : (r : _) (e : _) → ent (w .𝓤) (reader.clauses (w .𝓤) (w .H) (w .𝓖 .A) (w .𝓜 .mem) (w .𝓡 .run) κs a .ensures tt r e)
+      (fact (w .𝓤) (Exact (looking file degree) (r .refusal)))
+  reader-exact r e = fact-mono (w .𝓤) _ _ (λ x. rw (x .0) (reading-exact file degree))
+
   pub reader-empty : (r : _) (e : _) (n : Refusal) → lookupNumbers file degree ≡ NoBody n
       → ent (w .𝓤) (reader.clauses (w .𝓤) (w .H) (w .𝓖 .A) (w .𝓜 .mem) (w .𝓡 .run) κs a .ensures tt r e)
       (fact (w .𝓤) ((now (r .body) ≡ []) × (r .top ≡ 0)))
   reader-empty r e n d =
       let empty = looking-empty file degree n d in
-      fact-mono (w .𝓤) _ _ (λ x. (x .0 ∙ empty .0, x .2 ∙ empty .1))
+      fact-mono (w .𝓤) _ _ (λ x. (x .1 ∙ empty .0, x .3 ∙ empty .1))
 
 -- ---- a page
 

@@ -1,6 +1,7 @@
 -- The three demands, one file each, the same of the calls themselves and of the C functions, and that every contract leaves no choice.
 pub mod Situations
 pub mod Demand1
+pub mod Catalogues
 pub mod Demand2
 pub mod Demand3
 pub mod Arguments

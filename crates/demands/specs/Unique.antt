@@ -125,21 +125,22 @@ module _ (w : World) where
       fact-use (w .𝓤) φ (conjL (w .𝓤) (fact (w .𝓤) φ) (fact (w .𝓤) ψ))
       (λ x. fact-use (w .𝓤) ψ (conjR (w .𝓤) (fact (w .𝓤) φ) (fact (w .𝓤) ψ)) (λ y. factI (w .𝓤) χ _ (f x y)))
 
-  all-four : {A B C D : Type 0} {a a′ x : A} {b b′ y : B} {c c′ z : C} {d d′ u : D} → (a ≡ x) × (b ≡ y) × (c ≡ z) × (d ≡ u)
-      → (a′ ≡ x) × (b′ ≡ y) × (c′ ≡ z) × (d′ ≡ u) → (a and b and c and d) ≡ (a′ and b′ and c′ and d′)
-  all-four x y =
-      ap₂ _and_ (same (x .0) (y .0)) (ap₂ _and_ (same (x .1) (y .1)) (ap₂ _and_ (same (x .2) (y .2)) (same (x .3) (y .3))))
+  all-five : {A B C D E : Type 0} {a a′ x : A} {b b′ y : B} {c c′ z : C} {d d′ u : D} {e e′ v : E} → (a ≡ x) × (b ≡ y) × (c ≡ z) × (d ≡ u) × (e ≡ v)
+      → (a′ ≡ x) × (b′ ≡ y) × (c′ ≡ z) × (d′ ≡ u) × (e′ ≡ v) → (a and b and c and d and e) ≡ (a′ and b′ and c′ and d′ and e′)
+  all-five x y =
+      ap₂ _and_ (same (x .0) (y .0))
+      (ap₂ _and_ (same (x .1) (y .1)) (ap₂ _and_ (same (x .2) (y .2)) (ap₂ _and_ (same (x .3) (y .3)) (same (x .4) (y .4)))))
 
   pub reader-unique : DeterminedIn (λ κs a r e. reader.clauses (w .𝓤) (w .H) (w .𝓖 .A) (w .𝓜 .mem) (w .𝓡 .run) κs a .ensures tt r e)
-      (λ κs r e. now (r .body) and r .degree and r .top and r .place)
-  reader-unique κs a r r′ e e′ = facts-both all-four
+      (λ κs r e. r .refusal and now (r .body) and r .degree and r .top and r .place)
+  reader-unique κs a r r′ e e′ = facts-both all-five
 
   pub next-unique : DeterminedIn (λ κs a r e. next.clauses (w .𝓤) (w .H) (w .𝓖 .A) (w .𝓜 .mem) (w .𝓡 .run) κs a .ensures tt r e) (λ κs r e. r)
   next-unique κs a r r′ e e′ = facts-both same
 
   pub advance-unique : DeterminedIn (λ κs a r e. advance.clauses (w .𝓤) (w .H) (w .𝓖 .A) (w .𝓜 .mem) (w .𝓡 .run) κs a .ensures tt r e)
-      (λ κs r e. r .body and r .degree and r .top and r .place)
-  advance-unique κs a r r′ e e′ = facts-both all-four
+      (λ κs r e. r .refusal and r .body and r .degree and r .top and r .place)
+  advance-unique κs a r r′ e e′ = facts-both all-five
 
 -- ---- from C: the struct returned, and each slice
 

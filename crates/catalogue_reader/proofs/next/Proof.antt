@@ -77,15 +77,15 @@ module _ {M : Type 1} (𝓤 : URA M) (H : Heap 𝓤) (A : Atoms 𝓤) where
           qed W (raw Entry ∷ []) ∵ enter ! C Λ code.function (T′.lowered d ∷ []) _ $
           alloc1 ! (λ l₀. alloc1 ! (λ l₁. alloc1 ! (λ l₂. alloc1 ! (λ l₃. alloc1 ! (λ l₄. alloc1 ! (λ l₅. alloc0 ! $ params1 ! $
           pass1 ! (init ! (at 0 1) refl wt) $ pass0 ! $
-          -- the four fields go into _2 .. _5
-          assigns ! (of-opd ! (load ! (from ! (fld ! refl (stop !))) (look-in ! (at 0 1) (sub ! 0 refl (whole !)))))
-          (from ! (stop !)) (init ! (at 0 2) refl (tt, wt .1 .0)) $
+          -- the four fields behind the number go into _2 .. _5
           assigns ! (of-opd ! (load ! (from ! (fld ! refl (stop !))) (look-in ! (at 0 1) (sub ! 1 refl (whole !)))))
-          (from ! (stop !)) (init ! (at 0 3) refl (tt, wt .1 .1 .0)) $
+          (from ! (stop !)) (init ! (at 0 2) refl (tt, wt .1 .1 .0)) $
           assigns ! (of-opd ! (load ! (from ! (fld ! refl (stop !))) (look-in ! (at 0 1) (sub ! 2 refl (whole !)))))
-          (from ! (stop !)) (init ! (at 0 4) refl (tt, wt .1 .1 .1 .0)) $
+          (from ! (stop !)) (init ! (at 0 3) refl (tt, wt .1 .1 .1 .0)) $
           assigns ! (of-opd ! (load ! (from ! (fld ! refl (stop !))) (look-in ! (at 0 1) (sub ! 3 refl (whole !)))))
-          (from ! (stop !)) (init ! (at 0 5) refl (tt, wt .1 .1 .1 .1 .0)) $
+          (from ! (stop !)) (init ! (at 0 4) refl (tt, wt .1 .1 .1 .1 .0)) $
+          assigns ! (of-opd ! (load ! (from ! (fld ! refl (stop !))) (look-in ! (at 0 1) (sub ! 4 refl (whole !)))))
+          (from ! (stop !)) (init ! (at 0 5) refl (tt, wt .1 .1 .1 .1 .1 .0)) $
           -- what the reader owns stands behind all locals
           move ! ((2 + at 0 0) ∷ []) $
           use1 W (raw (RowAt .pre (to-fields S.the-row nextRow 𝓤 H A W κ q d)) ⊛ ‵ Kept) (passed-on S.the-row nextRow 𝓤 H A W κ q d) $ split ! $

@@ -8,12 +8,15 @@ use Rattle.catalogue_reader.proofs.opening.opened.Tie as tie
 returns : tie.Need-returns
 returns c =
     let called = c .before .before .before in
-    opened-found _ _ _ (sym (called .locate .ensures) ∙ c .before .found .given .1)
+    opened-found _ _ _ (sym (called .locate .ensures) ∙ c .before .found .given .1) _ refl refl refl refl
 
 returns-2 : tie.Need-returns-2
 returns-2 c =
-    let called = c .before .before in
-    opened-refused _ _ _ (sym (called .locate .ensures) ∙ c .enum-told .given .1) _ refl refl refl
+    let told = c .before .before in
+    let called = told .before .before in
+    opened-refused _ _ _ (sym (called .locate .ensures) ∙ told .refusal .given .1) _ (c .refusal-number .ensures) refl refl refl
 
 pub opened-spec : {M : Type 1} → statement M
-opened-spec = tie.close (tie.spec (λ c κs. search needs) (λ c. search needs) (λ c. search needs) returns returns-2)
+opened-spec =
+    tie.close
+    (tie.spec (λ c κs. search needs) (λ c. search needs) (λ c. search needs) (λ c κs. search needs) returns returns-2)
