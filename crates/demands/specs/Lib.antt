@@ -1,7 +1,9 @@
 -- The three demands, one file each, the same of the calls themselves and of the C functions, and that every contract leaves no choice.
 pub mod Situations
+pub mod PairTable
 pub mod Demand1
 pub mod Demand2
+pub mod Period
 pub mod Demand3
 pub mod Arguments
 pub mod Contracts
