@@ -37,7 +37,7 @@ use Rattle.demands.specs.Demand1.{ByTable, judging-table, paging-after-t
 use Rattle.demands.specs.Demand1.{judging-exact, judging-lowest, measuring-exact, measuring-lowest}
 use Rattle.demands.specs.Demand1.{paging-exact, paging-lowest, paging-keeps, pointing-exact, pointing-lowest, pointing-keeps}
 use Rattle.demands.specs.Demand2.{Conditions, accepted-exactly, uniformity-smallest, period-written}
-use Rattle.demands.specs.Demand3.{Faithful, ReadsList, faithful-reads}
+use Rattle.demands.specs.Demand3.{Faithful, ReadsList, faithful-list}
 use Rattle.demands.specs.Period.{FaithfulPoints, ReadsPeriod, faithful-period}
 use Rattle.generator.proofs.judge.Reads as judge
 use Rattle.net.proofs.t_value.Reads as t-value
@@ -156,8 +156,8 @@ page-faithful l at s x n more left (asked-page κs lent r e h) =
     record { refusal-is = rw (h .0); count-is = rw (h .0); more-is = rw (h .0); slice-is = h .1 }
 
 -- READ BY CALLS OF `page`.
-pub page-reads : (l : Selection) → lawfulDegree (l .degree) ≡ true → lawfulTop (l .top) ≡ true → ReadsList l (AskedPage l)
-page-reads l degree dimension = faithful-reads l degree dimension (page-faithful l)
+pub page-reads-list : (l : Selection) → lawfulDegree (l .degree) ≡ true → lawfulTop (l .top) ≡ true → ReadsList l (AskedPage l)
+page-reads-list l degree dimension = faithful-list l degree dimension (page-faithful l)
 
 -- ---- points in pieces
 
@@ -170,5 +170,5 @@ points-faithful : (m p q : ℕ) → FaithfulPoints m p q (AskedPoints m p q)
 points-faithful m p q first s x n left (asked-points κs lent r e h) = record { refusal-is = rw (h .0); count-is = rw (h .0); slice-is = h .1 }
 
 -- READ BY CALLS OF `points`.
-pub points-read : (m p q σ : ℕ) → Conditions m p q σ → ReadsPeriod m p q (AskedPoints m p q)
-points-read m p q σ c = faithful-period m p q σ c (points-faithful m p q)
+pub points-reads-period : (m p q σ : ℕ) → Conditions m p q σ → ReadsPeriod m p q (AskedPoints m p q)
+points-reads-period m p q σ c = faithful-period m p q σ c (points-faithful m p q)

@@ -6,9 +6,9 @@ use mathlib.Core.Path.{_≡_, refl}
 use mathlib.Core.Logic.{_⊎_, inl, inr}
 use mathlib.Core.Bool.{Bool, true, false}
 use mathlib.Core.List.{List, [], _∷_, _++_, List·Memᴰ, List·Nodup}
-use Prim.Native.Nat.{ℕ, _≤_}
+use Prim.Native.Nat.{ℕ, zero, suc, _+_, _≤_, _<_}
 use native.Mathlib.Omega.{arith}
-use lib.ListN.{length, take}
+use lib.ListN.{length, take, length-append}
 use Rattle.definitions.specs.Number.{bit, join}
 use Rattle.definitions.specs.Answers.{pageValues}
 use Rattle.definitions.specs.Generator.{Pair, lawfulDegree, wellFormed, accepted}
@@ -67,6 +67,30 @@ pub record ReadsList (l : Selection) (call : PageCall) : Type 0 where
   -- and at the end they are the list.
   pub whole : {ps : List (List (List ℕ))} → Ended (rowWidth l) call ps → join ps ≡ ranked l
 
+-- IT ENDS: where calls return, whoever chooses each slice after what came before, so that it holds a row, comes to the end.
+module _ (l : Selection) (call : PageCall) (reads : ReadsList l call)
+    (returns : (at : Position) (s : List ℕ) → (x : ℕ) × (n : ℕ) × (more : ℕ) × (left : List ℕ) × call at s x n more left)
+    (choose : Position → List (List (List ℕ)) → List ℕ) (room : (at : Position) (ps : List (List (List ℕ))) → rowWidth l ≤ length (choose at ps)) where
+  abbrev Finished : Type 0
+  Finished = (rows : List (List (List ℕ))) × Ended (rowWidth l) call rows
+
+  -- One call more ends the walk, or brings one page more.
+  turn : (at : Position) (ps : List (List (List ℕ))) → Walked (rowWidth l) call at ps → (x n more : ℕ) (left : List ℕ)
+      → call at (choose at ps) x n more left → (x ≡ 0) × ((more ≡ 0) ⊎ (more ≡ 1))
+      → ((next : Position) (page : List (List ℕ)) → Walked (rowWidth l) call next (ps ++ page ∷ []) → Finished) → Finished
+  turn at ps w x n more left c (z, inl e) on = (_, nothing-follows w (room at ps) (rw (z, e) at c))
+  turn at ps w x n more left c (z, inr e) on = on _ _ (more-follows w (room at ps) (rw (z, e) at c))
+
+  walk-on : (k : ℕ) (at : Position) (ps : List (List (List ℕ))) → Walked (rowWidth l) call at ps → length (ranked l) < length ps + k → Finished
+  walk-on zero at ps w h = absurd (omega (arith, reads .ends w))
+  walk-on (suc k) at ps w h =
+      let c = returns at (choose at ps) in
+      turn at ps w (c .0) (c .1) (c .2) (c .3) (c .4) (reads .answered w (choose at ps) (c .3) (c .0) (c .1) (c .2) (room at ps) (c .4))
+      (λ next page v. walk-on k next (ps ++ page ∷ []) v (simp length-append (omega arith)))
+
+  pub walk-ends : (rows : List (List (List ℕ))) × Ended (rowWidth l) call rows
+  walk-ends = walk-on (length (ranked l) + 1) Start [] begun (omega arith)
+
 -- A call as the definitions have it.
 pub record DefinedPage (l : Selection) (at : Position) (s : List ℕ) (refusal count more : ℕ) (left : List ℕ) : Type 0 where
   pub refusal-is : refusal ≡ value (pageValues (pageAnswer (pageRequest l at) s)) 0
@@ -118,8 +142,8 @@ module _ (l : Selection) (degree : lawfulDegree (l .degree) ≡ true) (dimension
         let d = f at s 0 n 0 left c in
         rw (count-told r room d, d .slice-is) (page-ends l degree dimension r s room (bit-zero _ (more-told r room d)))
 
-    pub faithful-reads : ReadsList l call
-    faithful-reads = record {
+    pub faithful-list : ReadsList l call
+    faithful-list = record {
       answered = λ {at} w s left x n more room c.
           let r = come-to w in
           let d = f at s x n more left c in
@@ -130,5 +154,12 @@ module _ (l : Selection) (degree : lawfulDegree (l .degree) ≡ true) (dimension
     }
 
   -- READ BY THE DEFINITIONS.
-  pub pages-read : ReadsList l (DefinedPage l)
-  pages-read = faithful-reads (λ at s x n more left d. d)
+  pub definition-reads-list : ReadsList l (DefinedPage l)
+  definition-reads-list = faithful-list (λ at s x n more left d. d)
+
+  -- Such a call always returns, so the walk ends.
+  pub definition-walk-ends : (choose : Position → List (List (List ℕ)) → List ℕ)
+      → ((at : Position) (ps : List (List (List ℕ))) → rowWidth l ≤ length (choose at ps)) → (rows : List (List (List ℕ))) × Ended (rowWidth l) (DefinedPage l) rows
+  definition-walk-ends =
+      walk-ends l (DefinedPage l) definition-reads-list
+      (λ at s. (_, _, _, _, record { refusal-is = refl; count-is = refl; more-is = refl; slice-is = refl }))

@@ -51,7 +51,7 @@ use Rattle.demands.specs.Demand1.{Exact, LowestGiven, ByTable, numberOf,
 use Rattle.demands.specs.Demand1.{judging-exact, judging-lowest, judging-table, measuring-exact, measuring-lowest, paging-exact, paging-lowest}
 use Rattle.demands.specs.Demand1.{paging-after-table, pointing-exact, pointing-lowest, pointing-table}
 use Rattle.demands.specs.Demand2.{Conditions, accepted-exactly, uniformity-smallest, period-written}
-use Rattle.demands.specs.Demand3.{Faithful, ReadsList, faithful-reads}
+use Rattle.demands.specs.Demand3.{Faithful, ReadsList, faithful-list}
 use Rattle.demands.specs.Period.{FaithfulPoints, ReadsPeriod, faithful-period}
 
 -- ---- a result that says 0 holds the value
@@ -197,8 +197,8 @@ module _ (list : FenyurkaList) where
       record { refusal-is = rw (h .0); count-is = rw (h .0); more-is = rw (h .0); slice-is = h .1 }
 
   -- READ FROM C.
-  pub c-page-reads : lawfulDegree (list .degree) ≡ true → lawfulTop (list .top) ≡ true → ReadsList (listOf list) (AskedFromC list)
-  c-page-reads degree dimension = faithful-reads (listOf list) degree dimension c-faithful
+  pub c-page-reads-list : lawfulDegree (list .degree) ≡ true → lawfulTop (list .top) ≡ true → ReadsList (listOf list) (AskedFromC list)
+  c-page-reads-list degree dimension = faithful-list (listOf list) degree dimension c-faithful
 
 -- ---- demand 2, points in pieces
 
@@ -211,5 +211,5 @@ c-points-faithful : (m p q : ℕ) → FaithfulPoints m p q (PointsFromC m p q)
 c-points-faithful m p q first s x n left (asked-points κs lent r e h) = record { refusal-is = rw (h .0); count-is = rw (h .0); slice-is = h .1 }
 
 -- READ FROM C.
-pub c-points-read : (m p q σ : ℕ) → Conditions m p q σ → ReadsPeriod m p q (PointsFromC m p q)
-c-points-read m p q σ c = faithful-period m p q σ c (c-points-faithful m p q)
+pub c-points-reads-period : (m p q σ : ℕ) → Conditions m p q σ → ReadsPeriod m p q (PointsFromC m p q)
+c-points-reads-period m p q σ c = faithful-period m p q σ c (c-points-faithful m p q)

@@ -1,10 +1,10 @@
 -- The words of an accepted pair's full period: no word comes twice; and calls for points one after the other, each from where the last ended, with
 -- any slices, bring them all: before the end no call is refused, and one with a slice that is not empty brings a word; at the end the words joined
 -- are the full period, and any further call is refused 8. By what was read so far, call by call. Assumes nothing.
-use mathlib.Core.Path.{_≡_, refl, _∙_}
+use mathlib.Core.Path.{_≡_, refl, _∙_, subst}
 use mathlib.Core.Logic.{_↔_}
 use mathlib.Core.List.{List, [], _∷_, _++_, List·Nodup}
-use Prim.Native.Nat.{ℕ, _+_, _-_, _≤_, _<_, min}
+use Prim.Native.Nat.{ℕ, zero, suc, _+_, _-_, _≤_, _<_, min}
 use native.Mathlib.Nat.{zero-add}
 use native.Mathlib.Omega.{arith}
 use native.Mathlib.Decide.{decLt}
@@ -41,7 +41,7 @@ pub data Read (call : PointsCall) : ℕ → List (List ℕ) → Type 0 where
 
 -- THE DEMAND, of such calls for a pair.
 pub record ReadsPeriod (m p q : ℕ) (call : PointsCall) : Type 0 where
-  -- Before the end no call is refused, and as many words come as fit and are left; none into an empty slice.
+  -- Before the end no call is refused, and as many words come as fit and are left; an empty slice gets none, and the index stays.
   pub answered : {i : ℕ} {ps : List (List ℕ)} → Read call i ps → i < period m → (s left : List ℕ) (refusal n : ℕ) → call i s refusal n left
       → (refusal ≡ 0) × (n ≡ min (length s) (period m - i))
   -- Each piece has a word, and there are no more words than the period has, so the reading ends.
@@ -53,6 +53,32 @@ pub record ReadsPeriod (m p q : ℕ) (call : PointsCall) : Type 0 where
   -- There, and only there, a call is refused, with 8, whatever slice it brings.
   pub refused : {i : ℕ} {ps : List (List ℕ)} → Read call i ps → (s left : List ℕ) (refusal n : ℕ) → call i s refusal n left
       → (refusal ≡ 8) ↔ (i ≡ period m)
+
+-- IT ENDS: where calls return, whoever chooses each slice after what came before, not an empty one, comes to the end of the period.
+module _ (m p q : ℕ) (call : PointsCall) (reads : ReadsPeriod m p q call)
+    (returns : (first : ℕ) (s : List ℕ) → (x : ℕ) × (n : ℕ) × (left : List ℕ) × call first s x n left)
+    (choose : ℕ → List (List ℕ) → List ℕ) (some : (i : ℕ) (ps : List (List ℕ)) → 0 < length (choose i ps)) where
+  abbrev Finished : Type 0
+  Finished = (pieces : List (List ℕ)) × Read call (period m) pieces
+
+  finished : (i : ℕ) (ps : List (List ℕ)) → Read call i ps → period m ≤ i → Finished
+  finished i ps r h =
+      let e : i ≡ period m = omega (arith, reads .ends r .1) in
+      (ps, subst (λ k. Read call k ps) e r)
+
+  read-on : (k i : ℕ) (ps : List (List ℕ)) → Read call i ps → period m ≤ i + k → Finished
+  read-on zero i ps r h = finished i ps r (omega arith)
+  read-on (suc k) i ps r h = go (decLt i (period m)) (λ j taken w l. read-on k j (ps ++ taken ∷ []) w l)
+    where
+      go : Dec (i < period m) → ((j : ℕ) (taken : List ℕ) → Read call j (ps ++ taken ∷ []) → period m ≤ j + k → Finished) → Finished
+      go (yes inside) on =
+          let c = returns i (choose i ps) in
+          let told = reads .answered r inside (choose i ps) (c .2) (c .0) (c .1) (c .3) in
+          on (i + c .1) _ (piece r (some i ps) (rw (told .0) at (c .3))) (omega (arith, some i ps, told .1))
+      go (no outside) on = finished i ps r (omega arith)
+
+  pub reading-ends : (pieces : List (List ℕ)) × Read call (period m) pieces
+  reading-ends = read-on (period m) 0 [] begun (omega arith)
 
 -- A call as the definitions have it.
 pub record DefinedPoints (m p q first : ℕ) (s : List ℕ) (refusal count : ℕ) (left : List ℕ) : Type 0 where
@@ -148,5 +174,11 @@ module _ (m p q σ : ℕ) (c : Conditions m p q σ) where
             go (no outside) = omega arith
 
   -- READ BY THE DEFINITIONS.
-  pub period-read : ReadsPeriod m p q (DefinedPoints m p q)
-  period-read = faithful-period (λ first s x n left d. d)
+  pub definition-reads-period : ReadsPeriod m p q (DefinedPoints m p q)
+  definition-reads-period = faithful-period (λ first s x n left d. d)
+
+  -- Such a call always returns, so the reading ends.
+  pub definition-reading-ends : (choose : ℕ → List (List ℕ) → List ℕ) → ((i : ℕ) (ps : List (List ℕ)) → 0 < length (choose i ps))
+      → (pieces : List (List ℕ)) × Read (DefinedPoints m p q) (period m) pieces
+  definition-reading-ends =
+      reading-ends m p q (DefinedPoints m p q) definition-reads-period (λ first s. (_, _, _, record { refusal-is = refl; count-is = refl; slice-is = refl }))
