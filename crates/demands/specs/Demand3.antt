@@ -38,6 +38,10 @@ ranked-whole l = record { ascends = ranked-ascends l; once = ranked-once l; each
 
 -- ---- walks
 
+-- The pages received, each its rows.
+abbrev pub Received : Type 0
+Received = List (List (List ℕ))
+
 -- A way to ask for pages: `call at s refusal count more left` says that a call at the position, with a slice that held s, has answered these numbers
 -- (the refusal's or 0, how many rows, 1 where a further one exists, else 0) and has left `left` in the slice.
 abbrev pub PageCall : Type 1
@@ -45,50 +49,59 @@ PageCall = Position → List ℕ → ℕ → ℕ → ℕ → List ℕ → Type 0
 
 -- A walk in progress: the pages ps were received, each answer said that more follows, and the next page is asked for at the position: the start, or
 -- after the last row received. Each call brought its own slice, which holds a row.
-pub data Walked (width : ℕ) (call : PageCall) : Position → List (List (List ℕ)) → Type 0 where
+pub data Walked (width : ℕ) (call : PageCall) : Position → Received → Type 0 where
   begun : Walked width call Start []
-  more-follows : {at : Position} {ps : List (List (List ℕ))} {s left : List ℕ} {n : ℕ} → Walked width call at ps → width ≤ length s → call at s 0 n 1 left
+  more-follows : {at : Position} {ps : Received} {s left : List ℕ} {n : ℕ} → Walked width call at ps → width ≤ length s → call at s 0 n 1 left
       → Walked width call (afterLast (rowsOf width n left)) (ps ++ rowsOf width n left ∷ [])
 
 -- A walk that has ended: the last answer said that nothing follows.
-pub data Ended (width : ℕ) (call : PageCall) : List (List (List ℕ)) → Type 0 where
-  nothing-follows : {at : Position} {ps : List (List (List ℕ))} {s left : List ℕ} {n : ℕ} → Walked width call at ps → width ≤ length s → call at s 0 n 0 left
+pub data Ended (width : ℕ) (call : PageCall) : Received → Type 0 where
+  nothing-follows : {at : Position} {ps : Received} {s left : List ℕ} {n : ℕ} → Walked width call at ps → width ≤ length s → call at s 0 n 0 left
       → Ended width call (ps ++ rowsOf width n left ∷ [])
 
 -- THE DEMAND, of the walks of such calls through a list.
 pub record ReadsList (l : Selection) (call : PageCall) : Type 0 where
   -- No call on the way is refused, whatever slice it brings that holds a row; it says that more follows or that nothing does.
-  pub answered : {at : Position} {ps : List (List (List ℕ))} → Walked (rowWidth l) call at ps → (s left : List ℕ) (refusal n more : ℕ)
+  pub answered : {at : Position} {ps : Received} → Walked (rowWidth l) call at ps → (s left : List ℕ) (refusal n more : ℕ)
       → rowWidth l ≤ length s → call at s refusal n more left → (refusal ≡ 0) × ((more ≡ 0) ⊎ (more ≡ 1))
   -- Answers that say that more follows are at most as many as there are rows, so every walk ends.
-  pub ends : {at : Position} {ps : List (List (List ℕ))} → Walked (rowWidth l) call at ps → length ps ≤ length (ranked l)
+  pub ends : {at : Position} {ps : Received} → Walked (rowWidth l) call at ps → length ps ≤ length (ranked l)
   -- The rows received so far are the first of the list,
-  pub front : {at : Position} {ps : List (List (List ℕ))} → Walked (rowWidth l) call at ps → join ps ≡ take (length (join ps)) (ranked l)
+  pub front : {at : Position} {ps : Received} → Walked (rowWidth l) call at ps → join ps ≡ take (length (join ps)) (ranked l)
   -- and at the end they are the list.
-  pub whole : {ps : List (List (List ℕ))} → Ended (rowWidth l) call ps → join ps ≡ ranked l
+  pub whole : {ps : Received} → Ended (rowWidth l) call ps → join ps ≡ ranked l
 
--- IT ENDS: where calls return, whoever chooses each slice after what came before, so that it holds a row, comes to the end.
+-- One call more at a position: with a slice that holds a row, and it has returned.
+pub record NextPage (width : ℕ) (call : PageCall) (at : Position) : Type 0 where
+  pub lent : List ℕ
+  pub room : width ≤ length lent
+  pub refusal : ℕ
+  pub count : ℕ
+  pub more : ℕ
+  pub left : List ℕ
+  pub returned : call at lent refusal count more left
+
+-- IT ENDS: whoever makes one call more wherever a walk has come to, each after what came before, comes to the end.
 module _ (l : Selection) (call : PageCall) (reads : ReadsList l call)
-    (returns : (at : Position) (s : List ℕ) → (x : ℕ) × (n : ℕ) × (more : ℕ) × (left : List ℕ) × call at s x n more left)
-    (choose : Position → List (List (List ℕ)) → List ℕ) (room : (at : Position) (ps : List (List (List ℕ))) → rowWidth l ≤ length (choose at ps)) where
+    (next : (at : Position) (ps : Received) → Walked (rowWidth l) call at ps → NextPage (rowWidth l) call at) where
   abbrev Finished : Type 0
-  Finished = (rows : List (List (List ℕ))) × Ended (rowWidth l) call rows
+  Finished = (pages : Received) × Ended (rowWidth l) call pages
 
   -- One call more ends the walk, or brings one page more.
-  turn : (at : Position) (ps : List (List (List ℕ))) → Walked (rowWidth l) call at ps → (x n more : ℕ) (left : List ℕ)
-      → call at (choose at ps) x n more left → (x ≡ 0) × ((more ≡ 0) ⊎ (more ≡ 1))
-      → ((next : Position) (page : List (List ℕ)) → Walked (rowWidth l) call next (ps ++ page ∷ []) → Finished) → Finished
-  turn at ps w x n more left c (z, inl e) on = (_, nothing-follows w (room at ps) (rw (z, e) at c))
-  turn at ps w x n more left c (z, inr e) on = on _ _ (more-follows w (room at ps) (rw (z, e) at c))
+  turn : {at : Position} {ps : Received} → Walked (rowWidth l) call at ps → (c : NextPage (rowWidth l) call at)
+      → (c .refusal ≡ 0) × ((c .more ≡ 0) ⊎ (c .more ≡ 1))
+      → ((to : Position) (page : List (List ℕ)) → Walked (rowWidth l) call to (ps ++ page ∷ []) → Finished) → Finished
+  turn w c (z, inl e) on = (_, nothing-follows w (c .room) (rw (z, e) at (c .returned)))
+  turn w c (z, inr e) on = on _ _ (more-follows w (c .room) (rw (z, e) at (c .returned)))
 
-  walk-on : (k : ℕ) (at : Position) (ps : List (List (List ℕ))) → Walked (rowWidth l) call at ps → length (ranked l) < length ps + k → Finished
+  walk-on : (k : ℕ) (at : Position) (ps : Received) → Walked (rowWidth l) call at ps → length (ranked l) < length ps + k → Finished
   walk-on zero at ps w h = absurd (omega (arith, reads .ends w))
   walk-on (suc k) at ps w h =
-      let c = returns at (choose at ps) in
-      turn at ps w (c .0) (c .1) (c .2) (c .3) (c .4) (reads .answered w (choose at ps) (c .3) (c .0) (c .1) (c .2) (room at ps) (c .4))
-      (λ next page v. walk-on k next (ps ++ page ∷ []) v (simp length-append (omega arith)))
+      let c = next at ps w in
+      turn w c (reads .answered w (c .lent) (c .left) (c .refusal) (c .count) (c .more) (c .room) (c .returned))
+      (λ to page v. walk-on k to (ps ++ page ∷ []) v (simp length-append (omega arith)))
 
-  pub walk-ends : (rows : List (List (List ℕ))) × Ended (rowWidth l) call rows
+  pub walk-ends : (pages : Received) × Ended (rowWidth l) call pages
   walk-ends = walk-on (length (ranked l) + 1) Start [] begun (omega arith)
 
 -- A call as the definitions have it.
@@ -117,7 +130,7 @@ bit-either false = inl refl
 
 module _ (l : Selection) (degree : lawfulDegree (l .degree) ≡ true) (dimension : lawfulTop (l .top) ≡ true) where
   -- What a call says at a position that a walk has come to.
-  module _ {at : Position} {ps : List (List (List ℕ))} (r : Reached (ruleOf l) at ps) {s left : List ℕ} {x n more : ℕ} (room : rowWidth l ≤ length s)
+  module _ {at : Position} {ps : Received} (r : Reached (ruleOf l) at ps) {s left : List ℕ} {x n more : ℕ} (room : rowWidth l ≤ length s)
       (d : DefinedPage l at s x n more left) where
     no-refusal : x ≡ 0
     no-refusal = rw (page-reached l degree dimension r s room) at (d .refusal-is)
@@ -129,14 +142,14 @@ module _ (l : Selection) (degree : lawfulDegree (l .degree) ≡ true) (dimension
     more-told = rw (page-reached l degree dimension r s room) at (d .more-is)
 
   module _ {call : PageCall} (f : Faithful l call) where
-    come-to : {at : Position} {ps : List (List (List ℕ))} → Walked (rowWidth l) call at ps → Reached (ruleOf l) at ps
+    come-to : {at : Position} {ps : Received} → Walked (rowWidth l) call at ps → Reached (ruleOf l) at ps
     come-to begun = reached-start (ruleOf l)
     come-to (more-follows {at = at} {s = s} {left = left} {n = n} w room c) =
         let r = come-to w in
         let d = f at s 0 n 1 left c in
         rw (count-told r room d, d .slice-is) (page-goes-on l degree dimension r s room (bit-one _ (more-told r room d)))
 
-    come-whole : {ps : List (List (List ℕ))} → Ended (rowWidth l) call ps → join ps ≡ ranked l
+    come-whole : {ps : Received} → Ended (rowWidth l) call ps → join ps ≡ ranked l
     come-whole (nothing-follows {at = at} {s = s} {left = left} {n = n} w room c) =
         let r = come-to w in
         let d = f at s 0 n 0 left c in
@@ -157,9 +170,15 @@ module _ (l : Selection) (degree : lawfulDegree (l .degree) ≡ true) (dimension
   pub definition-reads-list : ReadsList l (DefinedPage l)
   definition-reads-list = faithful-list (λ at s x n more left d. d)
 
-  -- Such a call always returns, so the walk ends.
-  pub definition-walk-ends : (choose : Position → List (List (List ℕ)) → List ℕ)
-      → ((at : Position) (ps : List (List (List ℕ))) → rowWidth l ≤ length (choose at ps)) → (rows : List (List (List ℕ))) × Ended (rowWidth l) (DefinedPage l) rows
-  definition-walk-ends =
-      walk-ends l (DefinedPage l) definition-reads-list
-      (λ at s. (_, _, _, _, record { refusal-is = refl; count-is = refl; more-is = refl; slice-is = refl }))
+  -- Such a call always returns: with any slices that hold a row, each chosen after what came before, there is such a walk to the end.
+  pub definition-walk-ends : (choose : Position → Received → List ℕ) → ((at : Position) (ps : Received) → rowWidth l ≤ length (choose at ps))
+      → (pages : Received) × Ended (rowWidth l) (DefinedPage l) pages
+  definition-walk-ends choose room = walk-ends l (DefinedPage l) definition-reads-list (λ at ps w. record {
+    lent = choose at ps;
+    room = room at ps;
+    refusal = _;
+    count = _;
+    more = _;
+    left = _;
+    returned = record { refusal-is = refl; count-is = refl; more-is = refl; slice-is = refl };
+  })

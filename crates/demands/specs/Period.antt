@@ -28,6 +28,10 @@ use Rattle.demands.specs.Demand2.{Conditions, judging-passes, is-accepte
 
 -- ---- pieces
 
+-- The pieces received, each its words.
+abbrev pub Pieces : Type 0
+Pieces = List (List ℕ)
+
 -- A way to ask for points of one pair: `call first s refusal count left` says that a call from the index, with a slice that held s, has answered
 -- these numbers (the refusal's or 0, how many words) and has left `left` in the slice.
 abbrev pub PointsCall : Type 1
@@ -35,49 +39,55 @@ PointsCall = ℕ → List ℕ → ℕ → ℕ → List ℕ → Type 0
 
 -- Reading in progress: the pieces ps were received, and the next call is from the index, behind the words received. Each call brought its own slice,
 -- which is not empty.
-pub data Read (call : PointsCall) : ℕ → List (List ℕ) → Type 0 where
+pub data Read (call : PointsCall) : ℕ → Pieces → Type 0 where
   begun : Read call 0 []
-  piece : {i n : ℕ} {ps : List (List ℕ)} {s left : List ℕ} → Read call i ps → 0 < length s → call i s 0 n left → Read call (i + n) (ps ++ take n left ∷ [])
+  piece : {i n : ℕ} {ps : Pieces} {s left : List ℕ} → Read call i ps → 0 < length s → call i s 0 n left → Read call (i + n) (ps ++ take n left ∷ [])
 
 -- THE DEMAND, of such calls for a pair.
 pub record ReadsPeriod (m p q : ℕ) (call : PointsCall) : Type 0 where
   -- Before the end no call is refused, and as many words come as fit and are left; an empty slice gets none, and the index stays.
-  pub answered : {i : ℕ} {ps : List (List ℕ)} → Read call i ps → i < period m → (s left : List ℕ) (refusal n : ℕ) → call i s refusal n left
+  pub answered : {i : ℕ} {ps : Pieces} → Read call i ps → i < period m → (s left : List ℕ) (refusal n : ℕ) → call i s refusal n left
       → (refusal ≡ 0) × (n ≡ min (length s) (period m - i))
   -- Each piece has a word, and there are no more words than the period has, so the reading ends.
-  pub ends : {i : ℕ} {ps : List (List ℕ)} → Read call i ps → (length ps ≤ i) × (i ≤ period m)
+  pub ends : {i : ℕ} {ps : Pieces} → Read call i ps → (length ps ≤ i) × (i ≤ period m)
   -- The words received so far are the first of the period,
-  pub front : {i : ℕ} {ps : List (List ℕ)} → Read call i ps → join ps ≡ words p q 0 i
+  pub front : {i : ℕ} {ps : Pieces} → Read call i ps → join ps ≡ words p q 0 i
   -- and at the end they are the full period.
-  pub whole : {ps : List (List ℕ)} → Read call (period m) ps → join ps ≡ words p q 0 (period m)
+  pub whole : {ps : Pieces} → Read call (period m) ps → join ps ≡ words p q 0 (period m)
   -- There, and only there, a call is refused, with 8, whatever slice it brings.
-  pub refused : {i : ℕ} {ps : List (List ℕ)} → Read call i ps → (s left : List ℕ) (refusal n : ℕ) → call i s refusal n left
+  pub refused : {i : ℕ} {ps : Pieces} → Read call i ps → (s left : List ℕ) (refusal n : ℕ) → call i s refusal n left
       → (refusal ≡ 8) ↔ (i ≡ period m)
 
--- IT ENDS: where calls return, whoever chooses each slice after what came before, not an empty one, comes to the end of the period.
-module _ (m p q : ℕ) (call : PointsCall) (reads : ReadsPeriod m p q call)
-    (returns : (first : ℕ) (s : List ℕ) → (x : ℕ) × (n : ℕ) × (left : List ℕ) × call first s x n left)
-    (choose : ℕ → List (List ℕ) → List ℕ) (some : (i : ℕ) (ps : List (List ℕ)) → 0 < length (choose i ps)) where
-  abbrev Finished : Type 0
-  Finished = (pieces : List (List ℕ)) × Read call (period m) pieces
+-- One call more from an index: with a slice that is not empty, and it has returned.
+pub record NextPoints (call : PointsCall) (i : ℕ) : Type 0 where
+  pub lent : List ℕ
+  pub some : 0 < length lent
+  pub refusal : ℕ
+  pub count : ℕ
+  pub left : List ℕ
+  pub returned : call i lent refusal count left
 
-  finished : (i : ℕ) (ps : List (List ℕ)) → Read call i ps → period m ≤ i → Finished
-  finished i ps r h =
+-- IT ENDS: whoever makes one call more wherever a reading has come to, each after what came before, comes to the end of the period.
+module _ (m p q : ℕ) (call : PointsCall) (reads : ReadsPeriod m p q call) (next : (i : ℕ) (ps : Pieces) → Read call i ps → NextPoints call i) where
+  abbrev Finished : Type 0
+  Finished = (pieces : Pieces) × Read call (period m) pieces
+
+  finished : {i : ℕ} {ps : Pieces} → Read call i ps → period m ≤ i → Finished
+  finished {i} {ps} r h =
       let e : i ≡ period m = omega (arith, reads .ends r .1) in
       (ps, subst (λ k. Read call k ps) e r)
 
-  read-on : (k i : ℕ) (ps : List (List ℕ)) → Read call i ps → period m ≤ i + k → Finished
-  read-on zero i ps r h = finished i ps r (omega arith)
-  read-on (suc k) i ps r h = go (decLt i (period m)) (λ j taken w l. read-on k j (ps ++ taken ∷ []) w l)
+  read-on : (k i : ℕ) (ps : Pieces) → Read call i ps → period m ≤ i + k → Finished
+  read-on zero i ps r h = finished r (omega arith)
+  read-on (suc k) i ps r h = go (decLt i (period m)) (next i ps r) (λ j taken w l. read-on k j (ps ++ taken ∷ []) w l)
     where
-      go : Dec (i < period m) → ((j : ℕ) (taken : List ℕ) → Read call j (ps ++ taken ∷ []) → period m ≤ j + k → Finished) → Finished
-      go (yes inside) on =
-          let c = returns i (choose i ps) in
-          let told = reads .answered r inside (choose i ps) (c .2) (c .0) (c .1) (c .3) in
-          on (i + c .1) _ (piece r (some i ps) (rw (told .0) at (c .3))) (omega (arith, some i ps, told .1))
-      go (no outside) on = finished i ps r (omega arith)
+      go : Dec (i < period m) → NextPoints call i → ((j : ℕ) (taken : List ℕ) → Read call j (ps ++ taken ∷ []) → period m ≤ j + k → Finished) → Finished
+      go (yes inside) c on =
+          let told = reads .answered r inside (c .lent) (c .left) (c .refusal) (c .count) (c .returned) in
+          on (i + c .count) _ (piece r (c .some) (rw (told .0) at (c .returned))) (omega (arith, c .some, told .1))
+      go (no outside) c on = finished r (omega arith)
 
-  pub reading-ends : (pieces : List (List ℕ)) × Read call (period m) pieces
+  pub reading-ends : (pieces : Pieces) × Read call (period m) pieces
   reading-ends = read-on (period m) 0 [] begun (omega arith)
 
 -- A call as the definitions have it.
@@ -92,7 +102,7 @@ FaithfulPoints m p q call = (first : ℕ) (s : List ℕ) (refusal count : ℕ) (
     → DefinedPoints m p q first s refusal count left
 
 -- What was read so far.
-record SoFar (m p q i : ℕ) (ps : List (List ℕ)) : Type 0 where
+record SoFar (m p q i : ℕ) (ps : Pieces) : Type 0 where
   few : length ps ≤ i
   most : i ≤ period m
   front : join ps ≡ words p q 0 i
@@ -139,7 +149,7 @@ module _ (m p q σ : ℕ) (c : Conditions m p q σ) where
         rw (e, points-behind s) at (d .refusal-is)
 
     -- An index that was come to is inside, or at the end.
-    so-far : {i : ℕ} {ps : List (List ℕ)} → Read call i ps → SoFar m p q i ps
+    so-far : {i : ℕ} {ps : Pieces} → Read call i ps → SoFar m p q i ps
     unfolding words
     so-far begun = record { few = omega arith; most = omega arith; front = refl }
     so-far (piece {i = i} {n = n} {ps = ps} {s = s} {left = left} r some a) = go (so-far r) (decLt i (period m))
@@ -177,8 +187,14 @@ module _ (m p q σ : ℕ) (c : Conditions m p q σ) where
   pub definition-reads-period : ReadsPeriod m p q (DefinedPoints m p q)
   definition-reads-period = faithful-period (λ first s x n left d. d)
 
-  -- Such a call always returns, so the reading ends.
-  pub definition-reading-ends : (choose : ℕ → List (List ℕ) → List ℕ) → ((i : ℕ) (ps : List (List ℕ)) → 0 < length (choose i ps))
-      → (pieces : List (List ℕ)) × Read (DefinedPoints m p q) (period m) pieces
-  definition-reading-ends =
-      reading-ends m p q (DefinedPoints m p q) definition-reads-period (λ first s. (_, _, _, record { refusal-is = refl; count-is = refl; slice-is = refl }))
+  -- Such a call always returns: with any slices that are not empty, each chosen after what came before, there is such a reading to the end.
+  pub definition-reading-ends : (choose : ℕ → Pieces → List ℕ) → ((i : ℕ) (ps : Pieces) → 0 < length (choose i ps))
+      → (pieces : Pieces) × Read (DefinedPoints m p q) (period m) pieces
+  definition-reading-ends choose some = reading-ends m p q (DefinedPoints m p q) definition-reads-period (λ i ps r. record {
+    lent = choose i ps;
+    some = some i ps;
+    refusal = _;
+    count = _;
+    left = _;
+    returned = record { refusal-is = refl; count-is = refl; slice-is = refl };
+  })

@@ -24,7 +24,8 @@ use Rattle.order_laws.specs.Accepted.{accepted-is}
 use Rattle.page_laws.specs.Rows.{rowsOf, rows-back}
 use Rattle.ranking_laws.specs.Met.{ruleOf, width-is}
 use Rattle.ranking_laws.specs.Ranked.{ranked-is}
-use Rattle.ranking_laws.specs.Reading.{cutBy, ListedPosition, at-start, after-listed, afterLast, pageBy, moreBy, page-wide, Reached, reached-page, reached-last}
+use Rattle.ranking_laws.specs.Reading.{cutBy, ListedPosition, at-start, after-listed, afterLast, pageBy, moreBy, page-wide}
+use Rattle.ranking_laws.specs.Reading.{Reached, reached-page, reached-last}
 
 -- The rows that are read out of the slice after a page was given.
 abbrev pub receivedRows : Selection → Position → List ℕ → List (List ℕ)
