@@ -1,7 +1,7 @@
 -- The pages of a selected list are those of its rule: at a position that a walk has come to, with a slice that holds a row, no situation applies;
 -- the rows that are read out of the slice are the rule's page; and so the walk goes on, or has the ranked list. Assumes nothing.
-use mathlib.Core.Path.{_≡_, refl, sym, _∙_}
-use mathlib.Core.Bool.{true, false}
+use mathlib.Core.Path.{_≡_, refl, sym, ap, _∙_}
+use mathlib.Core.Bool.{true, false, not}
 use mathlib.Core.List.{List, [], _∷_, _++_}
 use Prim.Native.Nat.{ℕ, _≤_}
 use native.Mathlib.Nat.{le-div-iff-mul-le}
@@ -9,7 +9,6 @@ use native.Mathlib.Omega.{arith}
 use lib.ListN.{length}
 use borrow.Author.Tests.{le-ltb}
 use Rattle.definitions.specs.Number.{join}
-use Rattle.definitions.specs.Answers.{unless}
 use Rattle.definitions.specs.Generator.{lawfulDegree}
 use Rattle.definitions.specs.Ranking.{lawfulTop, rowWidth, ranked, cutOf}
 use Rattle.definitions.specs.Calls.{pageRequest, paging, positionSituations, pairSituations, capacity, pageRows, furtherRow, pageAnswer, pageSlice}
@@ -17,7 +16,8 @@ use Rattle.definitions.specs.declared.Selection.{Selection}
 use Rattle.definitions.specs.declared.Position.{Position}
 use Rattle.definitions.specs.declared.Position.the-variants.{Start, After}
 use Rattle.definitions.specs.declared.PageRequest.{PageRequest}
-use Rattle.definitions.specs.declared.PageAnswer.the-variants.{Page}
+use Rattle.definitions.specs.declared.PageAnswer.the-variants.{Page, NoPage}
+use Rattle.answer_laws.specs.Unless.{NoneApplies, passes, at-end, none-append, unless-given}
 use Rattle.answer_laws.specs.Lent.{page-given}
 use Rattle.number_laws.specs.Bounds.{lawfulTop-is}
 use Rattle.order_laws.specs.Accepted.{accepted-is}
@@ -49,13 +49,19 @@ module _ (l : Selection) (at : Position) (s : List ℕ) where
   further-is = rw (cut-is l at, ranked-is l)
 
 module _ (l : Selection) (lawful-degree : lawfulDegree (l .degree) ≡ true) (lawful-top : lawfulTop (l .top) ≡ true) where
+  position-passes : {at : Position} → ListedPosition (ruleOf l) at → NoneApplies (positionSituations (l .degree) at)
+  unfolding positionSituations pairSituations
+  position-passes at-start = at-end
+  position-passes (after-listed {p = p} {q = q} w t) =
+      let a = accepted-is (l .degree) p q .0 t in
+      passes (ap not w) (passes (ap not (a .primitive-p)) (passes (ap not (a .linear)) (passes (ap not (a .coprime)) at-end)))
+
   not-refused : {at : Position} → ListedPosition (ruleOf l) at → (s : List ℕ) → rowWidth l ≤ length s
       → pageAnswer (pageRequest l at) s ≡ Page (length (pageRows (pageRequest l at) s)) (furtherRow (pageRequest l at) s)
-  unfolding pageAnswer paging positionSituations pairSituations unless
-  not-refused at-start s room = rw (lawful-degree, lawful-top, le-ltb (length s) (rowWidth l) room)
-  not-refused (after-listed {p = p} {q = q} w t) s room =
-      let a = accepted-is (l .degree) p q .0 t in
-      rw (lawful-degree, lawful-top, w, a .primitive-p, a .linear, a .coprime, le-ltb (length s) (rowWidth l) room)
+  unfolding pageAnswer paging
+  not-refused h s room =
+      unless-given NoPage _
+      (passes (ap not lawful-degree) (passes (ap not lawful-top) (none-append (position-passes h) (passes (le-ltb (length s) (rowWidth l) room) at-end))))
 
   -- ---- a walk through the list that has come to a position, and a slice that holds a row
 
