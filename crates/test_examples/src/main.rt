@@ -1,12 +1,10 @@
-// Every unstarred example of document 01, and catalogues whole and damaged, each with its answer.
+// Every unstarred example of document 01 but the catalogue's, each with its answer.
 use definitions::Judgement;
 use definitions::Uniformity;
 
-mod damaged; // catalogues whole and damaged
 mod output; // words of the full period
 mod pages; // pages of a short list
 mod print; // what is printed with
-mod reading; // the printed catalogue, row by row
 
 use print::number;
 use print::text;
@@ -58,6 +56,4 @@ fn main() {
     t_values();
     pages::all();
     output::all();
-    reading::all();
-    damaged::all();
 }

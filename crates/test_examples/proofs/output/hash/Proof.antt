@@ -1,4 +1,4 @@
--- `examples::output::hash` is safe and ends, and its sum stays below 2^32. Assumes nothing.
+-- `test_examples::output::hash` is safe and ends, and its sum stays below 2^32. Assumes nothing.
 use Prim.Native.Nat.{_-_, _<_, _^_}
 use native.Mathlib.Omega.{arith}
 use lib.ListN.{length}

@@ -1,4 +1,4 @@
--- `examples::pages::numbers` is safe and ends: what is left of the slice falls. Assumes nothing.
+-- `test_examples::pages::numbers` is safe and ends: what is left of the slice falls. Assumes nothing.
 use Prim.Native.Nat.{_-_}
 use lib.ListN.{length}
 use borrow.Author.Needs.{needs}
