@@ -11,7 +11,7 @@ use Rattle.definitions.specs.Ranking.{longestRow, rowWidth, ranked}
 use Rattle.definitions.specs.declared.Selection.{Selection}
 use Rattle.number_laws.specs.Bounds.{lead-high}
 use Rattle.ranking_laws.specs.Ranked.{ranked-few}
-use Rattle.listing.specs.Printed.{mostRows}
+use Rattle.page_line.specs.Due.{mostRows}
 use Rattle.search.specs.Frame.{LawfulList}
 use Rattle.cursor.specs.Left.{left, startOf, OnList, Handed}
 use Rattle.cursor.specs.Turns.{left-start, start-reads, none-left}

@@ -15,11 +15,11 @@ use Rattle.definitions.specs.Ranking.{longestRow}
 use Rattle.definitions.specs.Listing.{decimal, rowText, pageText, newline, letters}
 use Rattle.text.specs.Decimal.{decimal-digit, decimal-length-more}
 use Rattle.text.specs.Lines.{long-length}
-use Rattle.listing.specs.Texts.{page-line}
+use Rattle.page_line.specs.Texts.{page-line}
 use Rattle.definitions.specs.Number.{over}
 use Rattle.slice_laws.specs.Over.{over-then, over-then-room, length-over}
-use Rattle.text.specs.Place.{placed, behind, placed-fits, behind-fits}
-use Rattle.listing.specs.Printed.{mostRows, dueText, due-true, due-false}
+use Rattle.slice_laws.specs.Place.{placed, behind, placed-fits, behind-fits}
+use Rattle.page_line.specs.Due.{mostRows, dueText, due-true, due-false}
 use Rattle.row_text.specs.Rows.{rowBytes, row-none, row-some}
 
 digits-few : (k n : ℕ) → n < 10 ^ suc k → length (decimal n) ≤ suc k

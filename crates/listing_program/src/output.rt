@@ -4,11 +4,11 @@ ghost use Prim.Native.Nat.{_*_, _+_, _≤_, _<_};
 ghost use lib.ListN.{length};
 ghost use Rattle.definitions.specs.Number.{over};
 ghost use Rattle.definitions.specs.Ranking.{longestRow};
-ghost use Rattle.listing.specs.Printed.{mostRows};
+ghost use Rattle.page_line.specs.Due.{mostRows};
 ghost use Rattle.listing_program.specs.Room.{bufferBytes, freeFrom, stepText};
 use crate::program::Printed;
 use libc::STDOUT_FILENO;
-use listing::printing::put_due;
+use page_line::due::put_due;
 
 // More bytes than a line of words and numbers has.
 pub(crate) const LINE_ROOM: usize = 64;

@@ -1,6 +1,6 @@
 -- `listing_program::output::print_empty` prints the line of an empty page, within its buffer. Assumes nothing.
 use Prim.Native.Nat.{zero-le}
-use Rattle.text.specs.Place.{put-within}
+use Rattle.slice_laws.specs.Place.{put-within}
 use borrow.Author.Needs.{needs}
 use Rattle.listing_program.proofs.output.print_empty.Statement.{statement}
 use Rattle.listing_program.proofs.output.print_empty.Tie as tie

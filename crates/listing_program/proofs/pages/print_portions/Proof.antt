@@ -8,7 +8,7 @@ use lib.ListN.{length}
 use borrow.Author.Needs.{needs}
 use Rattle.definitions.specs.Ranking.{rowWidth, ranked}
 use Rattle.definitions.specs.declared.Selection.{Selection}
-use Rattle.listing.specs.Printed.{mostRows}
+use Rattle.page_line.specs.Due.{mostRows}
 use Rattle.cursor.specs.declared.reading.Cursor.{Cursor}
 use Rattle.cursor.specs.Turns.{toGo, turn-falls}
 use Rattle.listing_program.proofs.Portions.{roomAtHand, Printing, printing-start, printing-next, printing-few, portion-fits, printing-end, row-at-hand}

@@ -1,8 +1,8 @@
-// The list row by row, for a program that has the rows in parts: what stands behind a row, and how the whole begins and ends.
+// The line behind a row of a list that is printed row by row.
 ghost use mathlib.Core.Path.{_≡_};
 ghost use Prim.Native.Nat.{_≤_, _<_};
-ghost use Rattle.text.specs.Place.{placed, behind};
-ghost use Rattle.listing.specs.Printed.{mostRows, dueText};
+ghost use Rattle.slice_laws.specs.Place.{placed, behind};
+ghost use Rattle.page_line.specs.Due.{mostRows, dueText};
 use crate::put_page;
 
 // The line of a row's page, where the page or the list ends with this row; `done` rows stand before it.

@@ -1,9 +1,9 @@
--- `listing::put_page` puts the line below a page. Assumes nothing.
+-- `page_line::put_page` puts the line below a page. Assumes nothing.
 use borrow.Author.Needs.{needs}
 use Rattle.definitions.specs.Number.{numbers}
-use Rattle.listing.specs.Texts.{page-line}
-use Rattle.listing.proofs.put_page.Statement.{statement}
-use Rattle.listing.proofs.put_page.Tie as tie
+use Rattle.page_line.specs.Texts.{page-line}
+use Rattle.page_line.proofs.put_page.Statement.{statement}
+use Rattle.page_line.proofs.put_page.Tie as tie
 
 returns : tie.Need-returns
 unfolding numbers

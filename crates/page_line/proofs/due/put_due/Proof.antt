@@ -1,4 +1,4 @@
--- `listing::printing::put_due` puts the line of a page behind its last row, and nothing behind its other rows. Assumes nothing.
+-- `page_line::due::put_due` puts the line of a page behind its last row, and nothing behind its other rows. Assumes nothing.
 use mathlib.Core.Path.{_≡_}
 use mathlib.Core.Logic.{⊎-elim}
 use Prim.Native.Nat.{_/_, _%_, _+_, _<_}
@@ -8,10 +8,10 @@ use denote.Ref.{now}
 use borrow.Author.Needs.{needs}
 use borrow.Author.Tests.{ltb-true, ltb-false}
 use Rattle.definitions.specs.Listing.{pageText}
-use Rattle.text.specs.Place.{put-nothing}
-use Rattle.listing.specs.Printed.{dueText, due-within, due-at-end, due-at-full}
-use Rattle.listing.proofs.printing.put_due.Statement.{statement}
-use Rattle.listing.proofs.printing.put_due.Tie as tie
+use Rattle.slice_laws.specs.Place.{put-nothing}
+use Rattle.page_line.specs.Due.{dueText, due-within, due-at-end, due-at-full}
+use Rattle.page_line.proofs.due.put_due.Statement.{statement}
+use Rattle.page_line.proofs.due.put_due.Tie as tie
 
 add-row : tie.Need-add-row
 add-row c = let a = c .before .args in omega (arith, mod-lt (a .done) (c .before .pre .0))

@@ -1,8 +1,8 @@
--- `listing::put_page_line` puts the line below a page, with the ending that is given. Assumes nothing.
+-- `page_line::put_page_line` puts the line below a page, with the ending that is given. Assumes nothing.
 use borrow.Author.Needs.{needs}
 use Rattle.definitions.specs.Number.{numbers}
-use Rattle.listing.proofs.put_page_line.Statement.{statement}
-use Rattle.listing.proofs.put_page_line.Tie as tie
+use Rattle.page_line.proofs.put_page_line.Statement.{statement}
+use Rattle.page_line.proofs.put_page_line.Tie as tie
 
 returns : tie.Need-returns
 unfolding numbers

@@ -16,15 +16,7 @@ use Rattle.definitions.specs.Number.{join}
 use Rattle.definitions.specs.Listing.{rowText, pageText, pagesText, headerText, totalText, listText}
 use Rattle.definitions.specs.Ranking.{ranked}
 use Rattle.definitions.specs.declared.Selection.{Selection}
-
--- As many rows as 32 bits count, with one more for the number of the last page.
-abbrev pub mostRows : ℕ
-mostRows = 2 ^ 32 - 1
-
--- What stands behind a row that `done` rows stand before: the line of its page, where the page or the list ends with it.
-unfoldable pub dueText : ℕ → ℕ → Bool → List ℕ
-dueText size done further =
-    elim (not further || eqb (done % size + 1) size) [ true ↦ pageText (done / size + 1) (done % size + 1) further | false ↦ [] ]
+use Rattle.page_line.specs.Due.{dueText, due-true}
 
 abbrev pub some : List (List ℕ) → Bool
 some [] = false
@@ -39,15 +31,6 @@ printed size done (r ∷ rows) = rowText r ++ dueText size done (some rows) ++ p
 unfoldable pub printedList : ℕ → List (List ℕ) → List ℕ
 printedList size [] = pageText 1 0 false
 printedList size (r ∷ rows) = printed size 0 (r ∷ rows)
-
-pub due-true : (size done : ℕ) (further : Bool) → (not further || eqb (done % size + 1) size) ≡ true
-    → dueText size done further ≡ pageText (done / size + 1) (done % size + 1) further
-unfolding dueText
-due-true size done further e = rw (e, dueText)
-
-pub due-false : (size done : ℕ) (further : Bool) → (not further || eqb (done % size + 1) size) ≡ false → dueText size done further ≡ []
-unfolding dueText
-due-false size done further e = rw (e, dueText)
 
 module _ (size : ℕ) where
   -- Row i of page k.
@@ -176,17 +159,6 @@ pub list-is-printed : (l : Selection) (size : ℕ) → 1 ≤ size
     → listText l size ≡ headerText (l .degree) (l .top) ++ printedList size (ranked l) ++ totalText (length (ranked l))
 unfolding listText
 list-is-printed l size h = rw (pages-are-printed size (ranked l) h)
-
--- The test that a program makes: within a page nothing stands behind a row, and at its end or the list's end its line does.
-module _ (size done : ℕ) (h : 1 ≤ size) where
-  pub due-within : done % size + 1 < size → dueText size done true ≡ []
-  due-within l = due-false size done true (ne-eqb (done % size + 1) size (λ e. omega arith))
-
-  pub due-at-end : dueText size done false ≡ pageText (done / size + 1) (done % size + 1) false
-  due-at-end = due-true size done false refl
-
-  pub due-at-full : size ≤ done % size + 1 → dueText size done true ≡ pageText (done / size + 1) (done % size + 1) true
-  due-at-full l = due-true size done true (eq-eqb (done % size + 1) size (omega (arith, mod-lt done h)))
 
 -- Some rows of the list, of which more follow or not, as a program prints them that has the list in parts.
 unfoldable pub partText : ℕ → ℕ → Bool → List (List ℕ) → List ℕ
