@@ -1,4 +1,3 @@
--- The line below a page: what the contracts cite, where the line is due, and a list printed row by row.
+-- The line below a page: what the contracts cite, and where the line is due.
 pub mod Texts
 pub mod Due
-pub mod Printed

@@ -27,10 +27,10 @@ unfoldable pub printed : ℕ → ℕ → List (List ℕ) → List ℕ
 printed size done [] = []
 printed size done (r ∷ rows) = rowText r ++ dueText size done (some rows) ++ printed size (suc done) rows
 
--- The whole list's rows and page lines; an empty list has the line of one empty page.
-unfoldable pub printedList : ℕ → List (List ℕ) → List ℕ
-printedList size [] = pageText 1 0 false
-printedList size (r ∷ rows) = printed size 0 (r ∷ rows)
+-- The same with the line of one empty page where the list has no row.
+unfoldable pub printedFrom : ℕ → ℕ → List (List ℕ) → List ℕ
+printedFrom size done [] = pageText 1 0 false
+printedFrom size done (r ∷ rows) = printed size done (r ∷ rows)
 
 module _ (size : ℕ) where
   -- Row i of page k.
@@ -150,35 +150,39 @@ module _ (size : ℕ) where
           rw (pages-end (suc within) (suc k) rows end, page-whole k rows h l, left-end k 0 size rows end, zero-add (length rows))
 
 -- The listing's pages are its rows, printed one after the other.
-pub pages-are-printed : (size : ℕ) (rows : List (List ℕ)) → 1 ≤ size → pagesText (suc (length rows)) 1 size rows ≡ printedList size rows
-unfolding printedList
+pub pages-are-printed : (size : ℕ) (rows : List (List ℕ)) → 1 ≤ size → pagesText (suc (length rows)) 1 size rows ≡ printedFrom size 0 rows
+unfolding printedFrom
 pages-are-printed size [] h = rw (pages-end size 0 1 [] (omega arith), take-nil {A = List ℕ} size)
 pages-are-printed size (r ∷ rows) h = pages-printed size (length (r ∷ rows)) 0 (r ∷ rows) h (omega arith) (omega arith) ∙ rw (zero-mul size)
 
 pub list-is-printed : (l : Selection) (size : ℕ) → 1 ≤ size
-    → listText l size ≡ headerText (l .degree) (l .top) ++ printedList size (ranked l) ++ totalText (length (ranked l))
+    → listText l size ≡ headerText (l .degree) (l .top) ++ printedFrom size 0 (ranked l) ++ totalText (length (ranked l))
 unfolding listText
 list-is-printed l size h = rw (pages-are-printed size (ranked l) h)
 
--- Some rows of the list, of which more follow or not, as a program prints them that has the list in parts.
-unfoldable pub partText : ℕ → ℕ → Bool → List (List ℕ) → List ℕ
-partText size done further [] = []
-partText size done further (r ∷ rows) = rowText r ++ dueText size done (some rows || further) ++ partText size (suc done) further rows
+-- A row, and the line of its page where that ends.
+abbrev pub stepText : ℕ → ℕ → Bool → List ℕ → List ℕ
+stepText size done further row = rowText row ++ dueText size done further
+
+-- Some rows of the list, of which more follow or not.
+unfoldable pub rowsText : ℕ → ℕ → Bool → List (List ℕ) → List ℕ
+rowsText size done further [] = []
+rowsText size done further (r ∷ rows) = stepText size done (some rows || further) r ++ rowsText size (suc done) further rows
 
 some-append : (a b : List (List ℕ)) → some (a ++ b) ≡ (some a || some b)
 some-append [] b = refl
 some-append (r ∷ a) b = refl
 
 -- The parts joined are the rows of the whole list, wherever it is cut.
-pub parts-are-printed : (size done : ℕ) (a b : List (List ℕ)) → partText size done (some b) a ++ printed size (done + length a) b ≡ printed size done (a ++ b)
-unfolding partText printed
+pub parts-are-printed : (size done : ℕ) (a b : List (List ℕ)) → rowsText size done (some b) a ++ printed size (done + length a) b ≡ printed size done (a ++ b)
+unfolding rowsText printed
 parts-are-printed size done [] b = rw (add-zero done)
 parts-are-printed size done (r ∷ a) b =
     let next : done + suc (length a) ≡ suc done + length a = omega arith in
     let first = rowText r ++ dueText size done (some a || some b) in
     rw (
       next,
-      append-assoc first (partText size (suc done) (some b) a) (printed size (suc done + length a) b),
+      append-assoc first (rowsText size (suc done) (some b) a) (printed size (suc done + length a) b),
       parts-are-printed size (suc done) a b,
       some-append a b,
     )
