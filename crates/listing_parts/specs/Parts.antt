@@ -2,7 +2,7 @@
 -- TEXT: a part and the text that is left behind it are the text that was left, wherever the rows are cut; and no part is empty while a row fits.
 -- Assumes nothing.
 use mathlib.Core.Path.{_≡_, refl, sym, ap, ap₂, _∙_}
-use mathlib.Core.Bool.{Bool, true, false, false≢true}
+use mathlib.Core.Bool.{Bool, true, false, cond, false≢true}
 use mathlib.Core.List.{List, [], _∷_, _++_, append-assoc, append-nil}
 use Prim.Native.Nat.{ℕ, zero, suc, _+_, _/_, _≤_, _<_, min}
 use native.Mathlib.Nat.{zero-add, le-div-iff-mul-le}
@@ -13,6 +13,7 @@ use Rattle.definitions.specs.Number.{join, over}
 use Rattle.definitions.specs.Ranking.{longestRow, ranked}
 use Rattle.definitions.specs.Listing.{refusedText, headerText, rowText, pageText, totalText}
 use Rattle.definitions.specs.declared.Selection.{Selection}
+use Rattle.number_laws.specs.Truth.{by-test}
 use Rattle.number_laws.specs.Bounds.{lead-high}
 use Rattle.slice_laws.specs.Over.{over-front}
 use Rattle.ranking_laws.specs.Ranked.{ranked-few}
@@ -192,6 +193,22 @@ part-shorter k at u h g =
     let some-byte = part-some k at h g in
     let sum = simp length-append at (ap length (part-left k at u)) in
     omega arith
+
+-- The measure of a loop over the parts: 0 at the end, and else one more than the bytes that are left.
+abbrev pub toGo : Bool → Printing → ℕ
+toGo more at = cond more (suc (length (textLeft at))) 0
+
+pub part-falls : (k : ℕ) (at : Printing) → Underway at → (1 ≤ rowRoom at → 1 ≤ k) → {r : Part} → r ≡ partOf k at → toGo (r .more) (r .next) < toGo true at
+part-falls k at u h e = rw e (by-test (goesOn (behindPart k at))
+    (λ m. rw m (let less = part-shorter k at u h (goes at m) in omega arith))
+    (λ m. rw m (omega arith)))
+  where
+    goes : (at : Printing) → goesOn (behindPart k at) ≡ true → goesOn at ≡ true
+    goes (Refused n) m = refl
+    goes (Whole l size) m = refl
+    goes (Rows c size done) m = refl
+    goes (Total n) m = refl
+    goes Nothing m = m
 
 pub nothing-left : (at : Printing) → goesOn at ≡ false → textLeft at ≡ []
 nothing-left (Refused n) g = absurd (false≢true (sym g))

@@ -1,12 +1,12 @@
--- `listing_program::asking::read_input` answers a count within its buffer. The invariant says so, and that the buffer stays as long as it was.
+-- `listing_program::input::read_input` answers a count within its buffer. The invariant says so, and that the buffer stays as long as it was.
 -- The measure is how many bytes are left. Assumes nothing.
 use mathlib.Core.Path.{_≡_, refl}
 use Prim.Native.Nat.{_-_, _≤_}
 use native.Mathlib.Omega.{arith}
 use lib.ListN.{length, length-set}
 use borrow.Author.Needs.{needs}
-use Rattle.listing_program.proofs.asking.read_input.Statement.{statement}
-use Rattle.listing_program.proofs.asking.read_input.Tie as tie
+use Rattle.listing_program.proofs.input.read_input.Statement.{statement}
+use Rattle.listing_program.proofs.input.read_input.Tie as tie
 
 abbrev Inv-loop : tie.InvT-loop
 Inv-loop input₀ n₀ input n = (n ≤ length input) × (length input ≡ length input₀)
