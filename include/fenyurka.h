@@ -2,7 +2,8 @@
  * Fenyurka for C and C++: judges, ranks and writes out short-period Tausworthe generators over F_2, and reads catalogues of them.
  *
  * Proved for every input: each function returns, and its result and every element of a buffer equal the definition
- * (crates/definitions; for the structs crates/results/specs, crates/interface/specs and crates/catalogue/specs).
+ * (crates/definitions; for the structs crates/results/specs, crates/catalogue_results/specs,
+ * crates/interface/specs and crates/catalogue/specs).
  *
  * Polynomials are numbers: bit i is the coefficient of x^i, so 11 is x^3 + x + 1. A generator is a pair (p, q) with p of degree
  * m (2 to 16) and 1 <= q < 2^m. You need not check numbers before a call: any 32-bit value is allowed for any number.

@@ -3,7 +3,7 @@
 -- Assumes nothing.
 use mathlib.Core.Path.{_≡_, refl, sym, _∙_, subst}
 use mathlib.Core.Logic.{_↔_}
-use mathlib.Core.Bool.{Bool, true, false}
+use mathlib.Core.Bool.{Bool, true, false, false≢true}
 use mathlib.Core.List.{List, [], _∷_, _++_}
 use Rattle.definitions.specs.Answers.{Situation, unless}
 use Rattle.definitions.specs.declared.Refusal.{Refusal}
@@ -42,6 +42,14 @@ decides-front k (later e d) = later e (decides-front k d)
 pub decides-behind : {r : Refusal} {l k : List Situation} → NoneApplies l → Decides r k → Decides r (l ++ k)
 decides-behind at-end d = d
 decides-behind (passes e n) d = later e (decides-behind n d)
+
+pub decides-none : {r : Refusal} → Decides r [] → ⊥
+decides-none d = elim d [ ]
+
+pub decides-rest : {r : Refusal} {l k : List Situation} → NoneApplies l → Decides r (l ++ k) → Decides r k
+decides-rest at-end d = d
+decides-rest (passes e n) (here t) = absurd (false≢true (sym e ∙ t))
+decides-rest (passes e n) (later f d) = decides-rest n d
 
 pub none-append : {l k : List Situation} → NoneApplies l → NoneApplies k → NoneApplies (l ++ k)
 none-append at-end n = n

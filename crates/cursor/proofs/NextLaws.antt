@@ -19,14 +19,12 @@ use Rattle.number_laws.specs.Truth.{truth-equal}
 use Rattle.slice_laws.specs.Over.{length-over}
 use Rattle.page_laws.specs.Members.{take-within}
 use Rattle.page_laws.specs.Rows.{rowsOf, Wide, length-join, rows-back}
-use Rattle.ranking_laws.specs.Rule.{Rule}
-use Rattle.ranking_laws.specs.Met.{ruleOf, width-is}
-use Rattle.ranking_laws.specs.Ranked.{ranked-is}
-use Rattle.ranking_laws.specs.Reading.{ListedPosition, afterLast, lastRow, last-number, leftBy, pageBy, page-wide, left-after, listed-after}
-use Rattle.ranking_laws.specs.Session.{cut-is}
-use Rattle.ranking.specs.Serve.{Filled, fitting}
-use Rattle.ranking.specs.declared.serve.Served.{Served}
-use Rattle.cursor.specs.Left.{left, OnList, Handed}
+use Rattle.ranking_laws.specs.Met.{width-is}
+use Rattle.ranking_laws.specs.Reading.{afterLast, lastRow, last-number, pageBy, page-wide}
+use Rattle.page_rows.specs.Serve.{Filled, fitting}
+use Rattle.page_rows.specs.declared.serve.Served.{Served}
+use Rattle.cursor.specs.Left.{left, passed, OnList, Handed}
+use Rattle.cursor.specs.Passed.{ruleAt, page-by, passed-some, passed-left, passed-on}
 use Rattle.cursor.specs.Turns.{left-wide}
 use Rattle.cursor.specs.declared.reading.Cursor.{Cursor}
 use Rattle.cursor.specs.declared.reading.Portion.{Portion}
@@ -38,33 +36,17 @@ module _ {X : Type 0} where
   take-own (suc k) [] = refl
   take-own (suc k) (x ∷ l) = ap (_∷_ x) (take-own k l)
 
-  drop-own : (k : ℕ) (l : List X) → drop (length (take k l)) l ≡ drop k l
-  drop-own zero l = refl
-  drop-own (suc k) [] = refl
-  drop-own (suc k) (x ∷ l) = drop-own k l
-
 -- More than fit are those that are left over.
 more-left : (cap n : ℕ) → ltb cap n ≡ ltb 0 (n - min cap n)
 more-left cap n =
     truth-equal (ltb cap n) (ltb 0 (n - min cap n))
     (λ t. lt-ltb 0 (n - min cap n) (omega (arith, ltb-true cap n t)), λ t. lt-ltb cap n (omega (arith, ltb-true 0 (n - min cap n) t)))
 
-abbrev ruleAt : Cursor → Rule
-ruleAt c = ruleOf (c .list)
-
 abbrev cutAt : Cursor → Cut
 cutAt c = cutOf (c .list) (c .position)
 
 abbrev widthAt : Cursor → ℕ
 widthAt c = rowWidth (c .list)
-
-left-by : (c : Cursor) → left c ≡ leftBy (ruleAt c) (c .position)
-unfolding left
-left-by c = rw (cut-is (c .list) (c .position), ranked-is (c .list))
-
-page-by : (c : Cursor) (k : ℕ) → pageBy (ruleAt c) (c .position) k ≡ take k (left c)
-unfolding page
-page-by c k = ap (take k) (sym (left-by c))
 
 module _ (c : Cursor) {s t : List ℕ} {x : Served} (on : OnList c) (room : widthAt c ≤ length s) (f : Filled (c .list) (cutAt c) s x t) where
   abbrev cap : ℕ
@@ -95,6 +77,7 @@ module _ (c : Cursor) {s t : List ℕ} {x : Served} (on : OnList c) (room : widt
   handed-none z = record {
     count = sym z ∙ count-min;
     written = rw z at written-next;
+    next = refl;
     list = refl;
     on-list = on;
     behind = refl;
@@ -149,13 +132,14 @@ module _ (c : Cursor) {s t : List ℕ} {x : Served} (on : OnList c) (room : widt
           let second = ap (λ (i : ℕ). getD t (i + 1) 0) place ∙ number-is 1 (omega arith) in
           read ∙ ap₂ After first second
 
+      next-is : behind ≡ passed c (take (x .rows) (left c))
+      next-is =
+          let those : take (x .rows) (left c) ≡ pageBy (ruleAt c) (c .position) cap = next-rows ∙ sym (page-by c cap) in
+          ap (λ (p : Position). record { list = c .list; position = p }) position-is
+          ∙ sym (rw those (passed-some c (pageBy (ruleAt c) (c .position) cap) some-row))
+
       left-behind : left behind ≡ drop (x .rows) (left c)
-      left-behind =
-          left-by behind
-          ∙ ap (leftBy (ruleAt c)) position-is
-          ∙ left-after (ruleAt c) (c .position) cap some-row
-          ∙ ap (drop cap) (sym (left-by c))
-          ∙ sym (ap (λ (n : ℕ). drop n (left c)) count-is ∙ drop-own cap (left c))
+      left-behind = ap left next-is ∙ passed-left c (x .rows)
 
       further-left : x .further ≡ ltb 0 (length (left behind))
       unfolding more left
@@ -169,8 +153,9 @@ module _ (c : Cursor) {s t : List ℕ} {x : Served} (on : OnList c) (room : widt
       handed-some = record {
         count = count-min;
         written = written-next;
+        next = next-is;
         list = refl;
-        on-list = record { lawful = on .lawful; listed = rw position-is (listed-after (ruleAt c) (c .position) cap some-row) };
+        on-list = rw next-is (passed-on c (x .rows) on);
         behind = left-behind;
         more = further-left;
       }

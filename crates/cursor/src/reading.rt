@@ -7,7 +7,7 @@ ghost use Rattle.definitions.specs.declared.Position.the-variants.{After};
 ghost use Rattle.cursor.specs.Left.{startOf, OnList, Handed};
 use definitions::Position;
 use definitions::Selection;
-use ranking::serve;
+use page_rows::serve;
 use search::frame::width_of;
 
 // Which list is read, and the position behind the rows that were handed out.

@@ -22,6 +22,10 @@ unfoldable pub judges : ℕ → ℕ → ℕ → List ℕ → Example
 unfolding judgement
 judges m p q l = record { defined = judgementValues (judgement m p q); printed = l }
 
+-- The step of a pair of degree m, accepted or not.
+unfoldable pub steps : ℕ → ℕ → ℕ → ℕ → Example
+steps m p q n = record { defined = step m p q ∷ []; printed = n ∷ [] }
+
 -- The t-value of a pair of degree m in dimension s.
 unfoldable pub measures : ℕ → ℕ → ℕ → ℕ → ℕ → Example
 unfolding uniformity
@@ -40,13 +44,14 @@ unfolding pointsSlice
 begins m p q w = record { defined = pointsSlice m p q 0 (0 ∷ []); printed = w ∷ [] }
 
 unfoldable pub table : List Example
-unfolding judges measures lists begins
+unfolding judges steps measures lists begins
 table =
     judges 2 7 2 (0 ∷ 1 ∷ [])
     ∷ judges 3 11 7 (0 ∷ 5 ∷ [])
     ∷ judges 3 13 5 (0 ∷ 3 ∷ [])
     ∷ judges 3 11 2 (5 ∷ [])
     ∷ judges 4 31 12 (4 ∷ [])
+    ∷ steps 4 19 12 6
     ∷ judges 4 19 12 (6 ∷ [])
     ∷ measures 2 7 2 4 1
     ∷ measures 3 11 4 3 1
@@ -93,7 +98,7 @@ unfolding first every count numbers keep all over gcdWithin gcd _⊕_ degreeWith
 calls = 0
 
 starred-test : T (agrees table)
-unfolding table agrees same judges measures lists begins calls
+unfolding table agrees same judges steps measures lists begins calls
 starred-test = tt
 
 pub starred-examples : map (λ (e : Example). e .defined) table ≡ map (λ (e : Example). e .printed) table

@@ -3,42 +3,43 @@
 -- Each contract says that the result, and the slice at exit, are the definition's, so what is proved of that holds. Assumes nothing.
 use mathlib.Core.Path.{_≡_, sym, _∙_}
 use mathlib.Core.Logic.{_↔_}
-use mathlib.Core.Bool.{Bool, true, false}
-use mathlib.Core.List.{List, [], _∷_}
-use Prim.Native.Nat.{ℕ, suc, _+_, _≤_}
+use mathlib.Core.Bool.{true}
+use mathlib.Core.List.{List, []}
+use Prim.Native.Nat.{ℕ, _≤_}
 use lib.ListN.{length}
 use denote.Ref.{now}
 use base.Logic.{ent}
 use contract.Monad.{fact, fact-mono}
 use borrow.Fn.World.{World, ArgsD}
-use Rattle.definitions.specs.Number.{join, over}
+use Rattle.definitions.specs.Number.{over}
 use Rattle.definitions.specs.Answers.{judgementValues, uniformityValues, pageValues, pointsValues, openingValues, lookupValues}
 use Rattle.definitions.specs.Generator.{lawfulDegree, period}
 use Rattle.definitions.specs.Points.{words}
-use Rattle.definitions.specs.Ranking.{lawfulTop, rowWidth, ranked}
-use Rattle.definitions.specs.Calls.{judging, measuring, pageRequest, paging, pointing, pageAnswer, pageSlice}
+use Rattle.definitions.specs.Ranking.{lawfulTop}
+use Rattle.definitions.specs.Calls.{judging, measuring, pageRequest, paging, pointing}
 use Rattle.definitions.specs.Catalogue.{looking, lookupNumbers}
 use Rattle.definitions.specs.declared.Refusal.{Refusal}
 use Rattle.definitions.specs.declared.Selection.{Selection}
 use Rattle.definitions.specs.declared.Judgement.the-variants.{Accepted}
 use Rattle.definitions.specs.declared.Uniformity.the-variants.{Value}
 use Rattle.definitions.specs.declared.Lookup.the-variants.{NoBody}
-use Rattle.definitions.specs.declared.PageAnswer.the-variants.{Page, NoPage}
+use Rattle.definitions.specs.declared.PageAnswer.the-variants.{NoPage}
 use Rattle.definitions.specs.declared.PointsAnswer.the-variants.{NotWritten}
 use Rattle.definitions.specs.declared.PageRequest.{PageRequest}
 use Rattle.definitions.specs.declared.Position.{Position}
-use Rattle.definitions.specs.declared.Position.the-variants.{Start}
+use Rattle.definitions.specs.declared.Position.the-variants.{After}
 use Rattle.net_laws.specs.Smallest.{SmallestNet}
-use Rattle.page_laws.specs.Rows.{rowsOf}
-use Rattle.ranking_laws.specs.Reading.{afterLast, closes, goes-on}
-use Rattle.ranking_laws.specs.Session.{Session}
+use Rattle.number_laws.specs.Bounds.{LawfulDegree, LawfulTop}
+use Rattle.results.specs.Results.{value}
 use Rattle.demands.specs.Arguments.{second, fifth}
 use Rattle.demands.specs.Demand1.{Exact, LowestGiven, numberOf, formSituation, opening-exact, looking-empty, looking-exact, looking-lowest}
+use Rattle.demands.specs.Demand1.{ByTable, judging-table, paging-after-table, pointing-table}
 use Rattle.demands.specs.Demand1.{judging-exact, judging-lowest, measuring-exact, measuring-lowest}
 use Rattle.demands.specs.Demand1.{paging-exact, paging-lowest, paging-keeps, pointing-exact, pointing-lowest, pointing-keeps}
 use Rattle.demands.specs.Catalogues.{reading-exact}
 use Rattle.demands.specs.Demand2.{Conditions, accepted-exactly, uniformity-smallest, period-written}
-use Rattle.demands.specs.Demand3.{pages-whole}
+use Rattle.demands.specs.Demand3.{Faithful, ReadsList, faithful-list}
+use Rattle.demands.specs.Period.{FaithfulPoints, ReadsPeriod, faithful-period}
 use Rattle.generator.proofs.judge.Reads as judge
 use Rattle.net.proofs.t_value.Reads as t-value
 use Rattle.ranking.proofs.page.Reads as page
@@ -56,6 +57,9 @@ module _ (κs : _) (m p q : ℕ) (r : _) (e : _) (h : judge.Post κs (m, (p, (q,
 
   pub judge-lowest : LowestGiven (judging m p q) (numberOf (judgementValues r))
   judge-lowest = rw h (judging-lowest m p q)
+
+  pub judge-table : LawfulDegree m → ByTable m p q (numberOf (judgementValues r))
+  judge-table lawful = rw h (judging-table m p q lawful)
 
   pub judge-accepts : (σ : ℕ) → (r ≡ Accepted σ) ↔ Conditions m p q σ
   judge-accepts σ = rw h (accepted-exactly m p q σ)
@@ -80,6 +84,9 @@ module _ (κs : _) (m p q first : ℕ) (lent : _) (r : _) (e : _) (h : points.Po
 
   pub points-lowest : LowestGiven (pointing m p q first) (numberOf (pointsValues r))
   points-lowest = rw (h .0) (pointing-lowest m p q first (now lent))
+
+  pub points-table : LawfulDegree m → ByTable m p q (numberOf (pointsValues r))
+  points-table lawful = rw (h .0) (pointing-table m p q first (now lent) lawful)
 
   pub points-keep : (n : Refusal) → r ≡ NotWritten n → now (fifth e) ≡ now lent
   points-keep n d = h .1 ∙ pointing-keeps m p q first (now lent) n (sym (h .0) ∙ d)
@@ -138,50 +145,35 @@ module _ (κs : _) (request : PageRequest) (lent : _) (r : _) (e : _) (h : page.
   pub page-keeps : (n : Refusal) → r ≡ NoPage n → now (second e) ≡ now lent
   page-keeps n d = h .1 ∙ paging-keeps request (now lent) n (sym (h .0) ∙ d)
 
+module _ (κs : _) (l : Selection) (p q : ℕ) (lent : _) (r : _) (e : _) (h : page.Post κs (pageRequest l (After p q), (lent, tt)) r e) where
+  pub page-after-table : LawfulDegree (l .degree) → LawfulTop (l .top) → ByTable (l .degree) p q (numberOf (pageValues r))
+  page-after-table degree top = rw (h .0) (paging-after-table l (now lent) p q degree top)
+
 -- ---- the walk of pages
 
--- A way to ask for pages: `asked at s n further left` says that a call at the position, with a slice that held s, has answered that there are
--- n rows and whether a further one exists, and has left `left` in the slice.
-abbrev pub Asking : Type 1
-Asking = Position → List ℕ → ℕ → Bool → List ℕ → Type 0
-
--- `Calls width asked lent at i ps`: a page is asked for at the position with the slice `lent i`, the rows of the answer are read out of the slice at
--- exit, and the next page is asked for after the last of them with the next slice, until an answer says that nothing follows.
-pub data Calls (width : ℕ) (asked : Asking) (lent : ℕ → List ℕ) : Position → ℕ → List (List (List ℕ)) → Type 0 where
-  last-call : {at : Position} {i n : ℕ} {left : List ℕ} → asked at (lent i) n false left → Calls width asked lent at i (rowsOf width n left ∷ [])
-  call : {at : Position} {i n : ℕ} {left : List ℕ} {ps : List (List (List ℕ))} → asked at (lent i) n true left
-      → Calls width asked lent (afterLast (rowsOf width n left)) (suc i) ps → Calls width asked lent at i (rowsOf width n left ∷ ps)
-
-module _ (l : Selection) where
-  -- Such a way asks for pages of a list where answer and slice are the definition's.
-  abbrev pub Faithful : Asking → Type 0
-  Faithful asked = (at : Position) (s : List ℕ) (n : ℕ) (further : Bool) (left : List ℕ) → asked at s n further left
-      → (pageAnswer (pageRequest l at) s ≡ Page n further) × (left ≡ pageSlice (pageRequest l at) s)
-
-  -- What such calls read is what the session of the definitions reads.
-  calls-session : {asked : Asking} → Faithful asked → {lent : ℕ → List ℕ} {at : Position} {i : ℕ} {ps : List (List (List ℕ))}
-      → Calls (rowWidth l) asked lent at i ps → Session l lent at i ps
-  calls-session f {lent} (last-call {at = at} {i = i} c) = let g = f at (lent i) _ false _ c in rw (g .1) (closes (g .0))
-  calls-session f {lent} (call {at = at} {i = i} c more) =
-      let g = f at (lent i) _ true _ c in
-      rw (g .1) (goes-on (g .0) (rw (g .1) at (calls-session f more)))
-
-  -- The pages that were read, joined, are the whole ranked list.
-  module _ (degree : lawfulDegree (l .degree) ≡ true) (dimension : lawfulTop (l .top) ≡ true) (lent : ℕ → List ℕ) where
-    pub faithful-whole : {asked : Asking} → Faithful asked → ((i : ℕ) → rowWidth l ≤ length (lent i)) → {ps : List (List (List ℕ))}
-        → Calls (rowWidth l) asked lent Start 0 ps → (length ps ≤ length (ranked l) + 1) × (join ps ≡ ranked l)
-    faithful-whole f room c = pages-whole l degree dimension lent room (calls-session f c)
-
 -- Asked by `page`, its contract being met.
-pub data AskedPage (l : Selection) : Position → List ℕ → ℕ → Bool → List ℕ → Type 0 where
-  asked-page : {at : Position} {n : ℕ} {further : Bool} (κs : _) (slice : _) (e : _) → page.Post κs (pageRequest l at, (slice, tt)) (Page n further) e
-      → AskedPage l at (now slice) n further (now (second e))
+pub data AskedPage (l : Selection) : Position → List ℕ → ℕ → ℕ → ℕ → List ℕ → Type 0 where
+  asked-page : {at : Position} (κs : _) (lent : _) (r : _) (e : _) → page.Post κs (pageRequest l at, (lent, tt)) r e
+      → AskedPage l at (now lent) (value (pageValues r) 0) (value (pageValues r) 1) (value (pageValues r) 2) (now (second e))
 
-pub page-faithful : (l : Selection) → Faithful l (AskedPage l)
-page-faithful l at s n further left (asked-page κs slice e h) = (sym (h .0), h .1)
+page-faithful : (l : Selection) → Faithful l (AskedPage l)
+page-faithful l at s x n more left (asked-page κs lent r e h) =
+    record { refusal-is = rw (h .0); count-is = rw (h .0); more-is = rw (h .0); slice-is = h .1 }
 
 -- READ BY CALLS OF `page`.
-module _ (l : Selection) (degree : lawfulDegree (l .degree) ≡ true) (dimension : lawfulTop (l .top) ≡ true) (lent : ℕ → List ℕ) where
-  pub calls-whole : ((i : ℕ) → rowWidth l ≤ length (lent i)) → {ps : List (List (List ℕ))}
-      → Calls (rowWidth l) (AskedPage l) lent Start 0 ps → (length ps ≤ length (ranked l) + 1) × (join ps ≡ ranked l)
-  calls-whole = faithful-whole l degree dimension lent (page-faithful l)
+pub page-reads-list : (l : Selection) → lawfulDegree (l .degree) ≡ true → lawfulTop (l .top) ≡ true → ReadsList l (AskedPage l)
+page-reads-list l degree dimension = faithful-list l degree dimension (page-faithful l)
+
+-- ---- points in pieces
+
+-- Asked by `points`, its contract being met.
+pub data AskedPoints (m p q : ℕ) : ℕ → List ℕ → ℕ → ℕ → List ℕ → Type 0 where
+  asked-points : {first : ℕ} (κs : _) (lent : _) (r : _) (e : _) → points.Post κs (m, (p, (q, (first, (lent, tt))))) r e
+      → AskedPoints m p q first (now lent) (value (pointsValues r) 0) (value (pointsValues r) 1) (now (fifth e))
+
+points-faithful : (m p q : ℕ) → FaithfulPoints m p q (AskedPoints m p q)
+points-faithful m p q first s x n left (asked-points κs lent r e h) = record { refusal-is = rw (h .0); count-is = rw (h .0); slice-is = h .1 }
+
+-- READ BY CALLS OF `points`.
+pub points-reads-period : (m p q σ : ℕ) → Conditions m p q σ → ReadsPeriod m p q (AskedPoints m p q)
+points-reads-period m p q σ c = faithful-period m p q σ c (points-faithful m p q)

@@ -1,11 +1,12 @@
 -- Demand 1. For every public call and every input: the refusal numbers that a call can give are the listed ones; number n is given exactly when
 -- situation n applies and none listed before it does; the value is given exactly when none applies; a refusing call changes no lent slice.
--- Each call's numbers ascend, so it is the lowest number that is given. Each situation is shown as document 01's table has it. Assumes nothing.
-use mathlib.Core.Path.{_≡_, refl}
+-- Each call's numbers ascend, so it is the lowest number that is given. Each situation is shown as document 01's table has it: as the definition's
+-- tests, and for a pair (3 to 6) in the table's words. Assumes nothing.
+use mathlib.Core.Path.{_≡_, refl, ap}
 use mathlib.Core.Logic.{_↔_}
 use mathlib.Core.Bool.{Bool, true, not}
-use mathlib.Core.List.{List, [], _∷_, map, List·Memᴰ}
-use Prim.Native.Nat.{ℕ, _-_, _<_}
+use mathlib.Core.List.{List, [], _∷_, _++_, map, List·Memᴰ}
+use Prim.Native.Nat.{ℕ, _-_, _≤_, _<_}
 use native.Mathlib.Omega.{arith}
 use lib.Dec.{eqb, ltb}
 use lib.ListN.{length, getD}
@@ -17,7 +18,7 @@ use Rattle.definitions.specs.Calls.{pairSituations, judging, judgement, measuri
 use Rattle.definitions.specs.Calls.{pageSlice, pointing, pointsAnswer, pointsSlice}
 use Rattle.definitions.specs.Catalogue.{catalogueForm, opening, entryOf, looking, lookupNumbers, lookupPart, readerTop}
 use Rattle.definitions.specs.declared.Refusal.{Refusal}
-use Rattle.definitions.specs.declared.Refusal.the-variants.{IllFormedCatalogue}
+use Rattle.definitions.specs.declared.Refusal.the-variants.{WrongDegree, WrongDimension, ShortSlice, BeyondPeriod, IllFormedCatalogue}
 use Rattle.definitions.specs.declared.Selection.{Selection}
 use Rattle.definitions.specs.declared.Position.{Position}
 use Rattle.definitions.specs.declared.Position.the-variants.{Start, After}
@@ -28,10 +29,13 @@ use Rattle.definitions.specs.declared.PageAnswer.the-variants.{NoPage}
 use Rattle.definitions.specs.declared.PointsAnswer.the-variants.{NotWritten}
 use Rattle.definitions.specs.declared.Opening.the-variants.{Closed}
 use Rattle.definitions.specs.declared.Lookup.the-variants.{NoBody}
-use Rattle.answer_laws.specs.Unless.{NoneApplies, unless-both, unless-refused, told-refused}
+use Rattle.number_laws.specs.Bounds.{LawfulDegree, LawfulTop, lawfulDegree-is, lawfulTop-is}
+use Rattle.answer_laws.specs.Unless.{Decides, here, later, NoneApplies, passes, at-end, decides-behind, decides-rest, decides-none}
+use Rattle.answer_laws.specs.Unless.{unless-both, unless-refused, told-refused}
 use Rattle.answer_laws.specs.Lent.{page-keeps, points-keep}
 use Rattle.demands.specs.Situations.{applies, numbersOf, distinct, toldApart, ascend, given, FirstToApply, Lowest, given-exactly, given-none}
-use Rattle.demands.specs.Situations.{given-listed, first-is-lowest}
+use Rattle.demands.specs.Situations.{given-listed, first-is-lowest, first-decided}
+use Rattle.demands.specs.PairTable.{PairRefused, pair-table}
 
 -- The number of an answer, by the values that it holds: that of its refusal, 0 where it has none.
 abbrev pub numberOf : List ℕ → ℕ
@@ -65,6 +69,26 @@ lowest {l} {number} x a = record {
   );
 }
 
+-- The number is one of 3 to 6 just as the table says of the pair.
+abbrev pub ByTable : ℕ → ℕ → ℕ → ℕ → Type 0
+ByTable m p q number = (n : ℕ) → 0 < n → n ≤ 6 → (number ≡ n) ↔ PairRefused m p q n
+
+-- So it is where the pair's situations stand behind others that do not apply, and before others of higher numbers.
+by-table : (m p q : ℕ) (front rest : List Situation) {number : ℕ} → LawfulDegree m → Exact (front ++ (pairSituations m p q ++ rest)) number
+    → toldApart (front ++ (pairSituations m p q ++ rest)) ≡ true → NoneApplies front → ((r : Refusal) → Decides r rest → 6 < refusalNumber r)
+    → ByTable m p q number
+by-table m p q front rest {number} lawful x apart none higher n h k =
+    let table = pair-table m p q lawful rest higher n k in
+    let first = first-decided (front ++ (pairSituations m p q ++ rest)) apart n in (
+      λ (e : number ≡ n). let d = first .0 (x .each n h .0 e) in table .0 (d .0, decides-rest none (d .1), d .2),
+      λ (t : PairRefused m p q n). let d = table .1 t in x .each n h .1 (first .1 (d .0, decides-behind none (d .1), d .2)),
+    )
+
+-- One situation of a higher number behind them.
+higher-last : (b : Bool) (k : Refusal) → 6 < refusalNumber k → {r : Refusal} → Decides r (situation b k ∷ []) → 6 < refusalNumber r
+higher-last b k h (here e) = h
+higher-last b k h (later e d) = absurd (decides-none d)
+
 -- ---- judging
 
 module _ (m p q : ℕ) where
@@ -79,6 +103,12 @@ module _ (m p q : ℕ) where
   pub judging-lowest : LowestGiven (judging m p q) (numberOf (judgementValues (judgement m p q)))
   unfolding judging pairSituations
   judging-lowest = lowest judging-exact refl
+
+  pub judging-table : LawfulDegree m → ByTable m p q (numberOf (judgementValues (judgement m p q)))
+  unfolding judging pairSituations
+  judging-table lawful =
+      by-table m p q (situation (not (lawfulDegree m)) WrongDegree ∷ []) [] lawful judging-exact refl (passes (ap not (lawfulDegree-is m .1 lawful)) at-end)
+      (λ r d. absurd (decides-none d))
 
   pub judging-situations : map (applies (judging m p q)) (1 ∷ 3 ∷ 4 ∷ 5 ∷ 6 ∷ [])
       ≡ not (lawfulDegree m) ∷ not (wellFormed m p q) ∷ not (primitive m p) ∷ not (linearQuotients p q) ∷ not (coprimeStep m p q) ∷ []
@@ -146,6 +176,17 @@ module _ (r : PageRequest) (s : List ℕ) where
   pub paging-keeps : (n : Refusal) → pageAnswer r s ≡ NoPage n → pageSlice r s ≡ s
   paging-keeps n = page-keeps r s
 
+module _ (l : Selection) (s : List ℕ) (p q : ℕ) where
+  pub paging-after-table : LawfulDegree (l .degree) → LawfulTop (l .top)
+      → ByTable (l .degree) p q (numberOf (pageValues (pageAnswer (pageRequest l (After p q)) s)))
+  unfolding paging positionSituations pairSituations
+  paging-after-table degree top =
+      by-table (l .degree) p q
+      (situation (not (lawfulDegree (l .degree))) WrongDegree ∷ situation (not (lawfulTop (l .top))) WrongDimension ∷ [])
+      (situation (ltb (length s) (rowWidth l)) ShortSlice ∷ []) degree (paging-exact (pageRequest l (After p q)) s) refl
+      (passes (ap not (lawfulDegree-is (l .degree) .1 degree)) (passes (ap not (lawfulTop-is (l .top) .1 top)) at-end))
+      (λ r d. higher-last _ ShortSlice (omega arith) d)
+
 -- ---- points
 
 module _ (m p q i : ℕ) where
@@ -167,6 +208,12 @@ module _ (m p q i : ℕ) where
     pub pointing-lowest : LowestGiven (pointing m p q i) (numberOf (pointsValues (pointsAnswer m p q i s)))
     unfolding pointing judging pairSituations
     pointing-lowest = lowest pointing-exact refl
+
+    pub pointing-table : LawfulDegree m → ByTable m p q (numberOf (pointsValues (pointsAnswer m p q i s)))
+    unfolding pointing judging pairSituations
+    pointing-table lawful =
+        by-table m p q (situation (not (lawfulDegree m)) WrongDegree ∷ []) (situation (ltb (period m - 1) i) BeyondPeriod ∷ []) lawful pointing-exact refl
+        (passes (ap not (lawfulDegree-is m .1 lawful)) at-end) (λ r d. higher-last _ BeyondPeriod (omega arith) d)
 
     pub pointing-keeps : (n : Refusal) → pointsAnswer m p q i s ≡ NotWritten n → pointsSlice m p q i s ≡ s
     pointing-keeps n = points-keep m p q i s

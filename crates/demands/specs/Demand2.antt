@@ -21,21 +21,23 @@ use Rattle.definitions.specs.declared.Judgement.the-variants.{Accepted, Rejecte
 use Rattle.number_laws.specs.Bounds.{LawfulDegree, lawfulDegree-is}
 use Rattle.answer_laws.specs.Unless.{NoneApplies, passes, at-end, none-append, unless-given, told-given}
 use Rattle.fraction_laws.specs.WellFormed.{WellFormed, wellFormed-is}
-use Rattle.fraction_laws.specs.Quotients.{LinearQuotients, linearQuotients-is}
-use Rattle.order_laws.specs.Powers.{IsOrder}
+use Rattle.fraction_laws.specs.Euclid.{EveryQuotientLinear}
 use Rattle.order_laws.specs.Primitive.{primitive-is}
-use Rattle.order_laws.specs.Step.{step-unique}
 use Rattle.order_laws.specs.Orbit.{coprimeStep-is}
 use Rattle.order_laws.specs.Accepted.{IsStep, accepted-is, coprime-step, FullPeriod, full-period}
 use Rattle.net_laws.specs.Smallest.{SmallestNet, tValue-smallest}
 use Rattle.block_laws.specs.Blocks.{point, block, origin, points-are-blocks}
+use Rattle.demands.specs.PairTable.{Primitive, every-quotient, is-the-step}
 
--- What is asked of a pair of degree m and its step σ.
+-- What is asked of three numbers and the step σ: a lawful degree, a well-formed pair, and the three conditions.
 pub record Conditions (m p q σ : ℕ) : Type 0 where
   pub lawful : LawfulDegree m
   pub well-formed : WellFormed m p q
-  pub order : IsOrder p (period m)
-  pub quotients : LinearQuotients p q
+  -- p is primitive,
+  pub order : Primitive m p
+  -- every partial quotient of q/p has degree one,
+  pub quotients : EveryQuotientLinear p q
+  -- and the step, x^σ ≡ q (mod p) with 0 < σ < 2^m - 1, is coprime to 2^m - 1.
   pub is-step : IsStep m p q σ
   pub coprime : gcd σ (period m) ≡ 1
 
@@ -82,20 +84,19 @@ module _ (m p q : ℕ) where
   tests-conditions : Tests m p q → Conditions m p q (step m p q)
   tests-conditions t =
       let degree = lawfulDegree-is m .0 (t .lawful) in
+      let formed = wellFormed-is m p q .0 (t .formed) in
+      let order = primitive-is m p (omega arith) .0 (t .primitive-p) in
       record {
         lawful = degree;
-        well-formed = wellFormed-is m p q .0 (t .formed);
-        order = primitive-is m p (omega arith) .0 (t .primitive-p);
-        quotients = linearQuotients-is p q .0 (t .linear);
+        well-formed = formed;
+        order = order;
+        quotients = every-quotient m p q (degree .low) formed order .0 (t .linear);
         is-step = coprime-step m p q (degree .low) (t .coprime);
         coprime = coprimeStep-is m p q .0 (t .coprime);
       }
 
   conditions-step : (σ : ℕ) → Conditions m p q σ → step m p q ≡ σ
-  conditions-step σ c =
-      let low : 1 ≤ m = omega (arith, c .lawful .low) in
-      let s = c .is-step in
-      step-unique m p low (c .well-formed .degree-p) (primitive-is m p low .1 (c .order)) q σ (s .positive) (s .below) (s .gives)
+  conditions-step σ c = is-the-step m p q (c .lawful .low) (c .well-formed) (c .order) σ (c .is-step)
 
   conditions-tests : (σ : ℕ) → Conditions m p q σ → Tests m p q
   conditions-tests σ c =
@@ -104,7 +105,7 @@ module _ (m p q : ℕ) where
         lawful = lawfulDegree-is m .1 (c .lawful);
         formed = wellFormed-is m p q .1 (c .well-formed);
         primitive-p = primitive-is m p low .1 (c .order);
-        linear = linearQuotients-is p q .1 (c .quotients);
+        linear = every-quotient m p q (c .lawful .low) (c .well-formed) (c .order) .1 (c .quotients);
         coprime = coprimeStep-is m p q .1 (ap (λ s. gcd s (period m)) (conditions-step σ c) ∙ c .coprime);
       }
 
@@ -149,7 +150,11 @@ module _ (m p q σ : ℕ) (c : Conditions m p q σ) where
   lawful-low : 1 ≤ m
   lawful-low = omega (arith, c .lawful .low)
 
-  is-accepted : accepted m p q ≡ true
+  -- No situation of judging applies.
+  pub judging-passes : NoneApplies (judging m p q)
+  judging-passes = tests-pass m p q (conditions-tests m p q σ c)
+
+  pub is-accepted : accepted m p q ≡ true
   is-accepted = tests-accepted m p q (conditions-tests m p q σ c)
 
   -- THE FULL PERIOD: the states of an accepted pair are all nonzero polynomials of degree below m, each once, and then 1 again.
@@ -162,7 +167,7 @@ module _ (m p q σ : ℕ) (c : Conditions m p q σ) where
   period-written s l =
       let all : wordCount m 0 s ≡ period m = omega arith in
       let last = le-ltb (period m - 1) 0 (omega arith) in
-      unless-given (λ (n : Refusal). s) _ (none-append (tests-pass m p q (conditions-tests m p q σ c)) (passes last at-end)) ∙ rw all
+      unless-given (λ (n : Refusal). s) _ (none-append judging-passes (passes last at-end)) ∙ rw all
 
   -- THE POINT SET: to 32 digits it is the origin together with the s-blocks of the output, round the period, whatever is asked of a point.
   pub points-origin-and-blocks : (s : ℕ) (test : List ℕ → Bool)

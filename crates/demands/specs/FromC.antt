@@ -1,39 +1,43 @@
 -- The demands of the C functions: whatever struct and slices their contracts allow, the refusal's number is given exactly in its situation and 0
--- with the value, a refusal leaves the slice as it was, and whoever walks the pages reads the ranked list. Each result holds the values of the
--- definition's answer, and an answer whose number is 0 is the value. Assumes nothing.
-use mathlib.Core.Path.{_≡_, refl, sym, ap, ap₂, _∙_}
+-- with the value, a refusal leaves the slice as it was, accepted is what demand 2 says, the t-value is the smallest, whoever walks the pages reads
+-- the ranked list, and points in pieces are the full period. Each result holds the values of the definition's answer. Assumes nothing.
+use mathlib.Core.Path.{_≡_, refl, ap, _∙_}
 use mathlib.Core.Logic.{_↔_}
-use mathlib.Core.Bool.{Bool, true, false}
+use mathlib.Core.Bool.{true}
 use mathlib.Core.List.{List}
-use Prim.Native.Nat.{ℕ, _+_, _≤_, _<_}
+use Prim.Native.Nat.{ℕ, _≤_, _<_}
+use native.Mathlib.Nat.{zero-mul}
 use native.Mathlib.Omega.{arith}
 use lib.ListN.{length}
 use denote.Ref.{now}
-use Rattle.definitions.specs.Number.{bit, join}
-use Rattle.definitions.specs.Answers.{judgementValues, uniformityValues, pageValues, pointsValues}
-use Rattle.definitions.specs.Generator.{lawfulDegree, step}
-use Rattle.definitions.specs.Ranking.{lawfulTop, rowWidth, ranked}
-use Rattle.definitions.specs.Catalogue.{looking}
+use Rattle.definitions.specs.Number.{over}
+use Rattle.definitions.specs.Answers.{judgementValues, uniformityValues, pageValues, pointsValues, lookupValues}
+use Rattle.definitions.specs.Generator.{lawfulDegree, period, step}
+use Rattle.definitions.specs.Points.{words}
+use Rattle.definitions.specs.Ranking.{lawfulTop}
+use Rattle.definitions.specs.Catalogue.{looking, lookupNumbers}
 use Rattle.definitions.specs.Net.{tValue}
-use Rattle.definitions.specs.Calls.{judging, judgement, measuring, uniformity, paging, pageRows, furtherRow, pageAnswer, pageSlice}
+use Rattle.definitions.specs.Calls.{judging, judgement, measuring, uniformity, paging, pageAnswer, pageSlice}
 use Rattle.definitions.specs.Calls.{pointing, pointsAnswer, pointsSlice}
 use Rattle.definitions.specs.declared.Position.{Position}
 use Rattle.definitions.specs.declared.Position.the-variants.{Start, After}
 use Rattle.definitions.specs.declared.PageRequest.{PageRequest}
 use Rattle.definitions.specs.declared.Judgement.the-variants.{Accepted, Rejected}
 use Rattle.definitions.specs.declared.Uniformity.the-variants.{Value, Undefined}
-use Rattle.definitions.specs.declared.PageAnswer.the-variants.{Page, NoPage}
+use Rattle.number_laws.specs.Bounds.{LawfulDegree, LawfulTop}
+use Rattle.definitions.specs.declared.Lookup.{Lookup}
+use Rattle.definitions.specs.declared.Lookup.the-variants.{Body, NoBody}
 use Rattle.net_laws.specs.Smallest.{SmallestNet}
 use Rattle.answer_laws.specs.Unless.{unless-given}
 use Rattle.answer_laws.specs.Together.{answered-both}
 use Rattle.answer_laws.specs.Lent.{page-answered, points-answered}
-use Rattle.results.specs.Results.{judgementResult, tValueResult, pageResult, pointsResult}
+use Rattle.results.specs.Results.{value, judgementResult, tValueResult, pageResult, pointsResult}
 use Rattle.results.specs.declared.FenyurkaJudgement.{FenyurkaJudgement}
 use Rattle.results.specs.declared.FenyurkaTValue.{FenyurkaTValue}
 use Rattle.results.specs.declared.FenyurkaPage.{FenyurkaPage}
 use Rattle.results.specs.declared.FenyurkaPoints.{FenyurkaPoints}
 use Rattle.interface.specs.Requests.{listOf, pageOf}
-use Rattle.interface.specs.Located.{located-values}
+use Rattle.interface.specs.Located.{located-values, located-part}
 use Rattle.interface.specs.declared.FenyurkaList.{FenyurkaList}
 use Rattle.interface.proofs.fenyurka_judge.Reads as c-judge
 use Rattle.interface.proofs.fenyurka_t_value.Reads as c-t-value
@@ -43,10 +47,12 @@ use Rattle.interface.proofs.fenyurka_points.Reads as c-points
 use Rattle.interface.proofs.fenyurka_open.Reads as c-open
 use Rattle.interface.proofs.fenyurka_lookup.Reads as c-lookup
 use Rattle.demands.specs.Arguments.{second, fourth, fifth}
-use Rattle.demands.specs.Contracts.{Calls, Faithful, faithful-whole}
-use Rattle.demands.specs.Demand1.{formSituation, opening-exact, looking-exact}
-use Rattle.demands.specs.Demand1.{Exact, numberOf, judging-exact, measuring-exact, paging-exact, pointing-exact}
-use Rattle.demands.specs.Demand2.{Conditions, accepted-exactly, uniformity-smallest}
+use Rattle.demands.specs.Demand1.{Exact, LowestGiven, ByTable, numberOf, formSituation, opening-exact, looking-exact, looking-lowest}
+use Rattle.demands.specs.Demand1.{judging-exact, judging-lowest, judging-table, measuring-exact, measuring-lowest, paging-exact, paging-lowest}
+use Rattle.demands.specs.Demand1.{paging-after-table, pointing-exact, pointing-lowest, pointing-table}
+use Rattle.demands.specs.Demand2.{Conditions, accepted-exactly, uniformity-smallest, period-written}
+use Rattle.demands.specs.Demand3.{Faithful, ReadsList, faithful-list}
+use Rattle.demands.specs.Period.{FaithfulPoints, ReadsPeriod, faithful-period}
 
 -- ---- a result that says 0 holds the value
 
@@ -79,28 +85,10 @@ module _ (m p q : ℕ) where
         let same : r .t ≡ tValue m p q s = rw (h, given) in
         rw same (uniformity-smallest m p q s (tValue m p q s) given)
 
-bit-same : (b c : Bool) → bit b ≡ bit c → b ≡ c
-bit-same true true e = refl
-bit-same true false e = absurd (omega arith)
-bit-same false true e = absurd (omega arith)
-bit-same false false e = refl
-
-module _ (request : PageRequest) (s : List ℕ) where
-  paged-zero : numberOf (pageValues (pageAnswer request s)) ≡ 0 → pageAnswer request s ≡ Page (length (pageRows request s)) (furtherRow request s)
-  unfolding pageAnswer
-  paged-zero z = unless-given NoPage _ (paging-exact request s .none .0 z)
-
-  module _ (r : FenyurkaPage) (h : r ≡ pageResult (pageValues (pageAnswer request s))) where
-    result-page : (further : Bool) → r .refusal ≡ 0 → r .more ≡ bit further → pageAnswer request s ≡ Page (r .count) further
-    result-page further z more =
-        let given = paged-zero (rw h at z) in
-        let count : r .count ≡ length (pageRows request s) = rw (h, given) in
-        let last : furtherRow request s ≡ further = bit-same _ _ (rw (h, given) at more) in
-        given ∙ ap₂ Page (sym count) last
-
-    result-keeps : 0 < r .refusal → pageSlice request s ≡ s
-    result-keeps n =
-        answered-both (page-answered request s) (λ a t. 0 < numberOf (pageValues a) → t ≡ s) (λ k i. refl) (λ i. absurd (omega arith)) (rw h at n)
+module _ (request : PageRequest) (s : List ℕ) (r : FenyurkaPage) (h : r ≡ pageResult (pageValues (pageAnswer request s))) where
+  result-keeps : 0 < r .refusal → pageSlice request s ≡ s
+  result-keeps n =
+      answered-both (page-answered request s) (λ a t. 0 < numberOf (pageValues a) → t ≡ s) (λ k i. refl) (λ i. absurd (omega arith)) (rw h at n)
 
 points-result-keeps : (m p q first : ℕ) (s : List ℕ) (r : FenyurkaPoints) → r ≡ pointsResult (pointsValues (pointsAnswer m p q first s))
     → 0 < r .refusal → pointsSlice m p q first s ≡ s
@@ -113,12 +101,21 @@ module _ (κs : _) (m p q : ℕ) (r : _) (e : _) (h : c-judge.Post κs (m, (p, (
   pub c-judge-exact : Exact (judging m p q) (r .refusal)
   c-judge-exact = rw h (judging-exact m p q)
 
+  pub c-judge-lowest : LowestGiven (judging m p q) (r .refusal)
+  c-judge-lowest = rw h (judging-lowest m p q)
+
+  pub c-judge-table : LawfulDegree m → ByTable m p q (r .refusal)
+  c-judge-table lawful = rw h (judging-table m p q lawful)
+
   pub c-judge-accepts : (σ : ℕ) → ((r .refusal ≡ 0) × (r .step ≡ σ)) ↔ Conditions m p q σ
   c-judge-accepts = judgement-accepts m p q r h
 
 module _ (κs : _) (m p q s : ℕ) (r : _) (e : _) (h : c-t-value.Post κs (m, (p, (q, (s, tt)))) r e) where
   pub c-t-value-exact : Exact (measuring m p q s) (r .refusal)
   c-t-value-exact = rw h (measuring-exact m p q s)
+
+  pub c-t-value-lowest : LowestGiven (measuring m p q s) (r .refusal)
+  c-t-value-lowest = rw h (measuring-lowest m p q s)
 
   pub c-t-value-smallest : r .refusal ≡ 0 → SmallestNet m p q s (r .t)
   c-t-value-smallest = result-smallest m p q s r h
@@ -127,6 +124,9 @@ module _ (κs : _) (list : FenyurkaList) (rows : _) (r : _) (e : _) (h : c-first
   pub c-first-page-exact : Exact (paging (pageOf list Start) (now rows)) (r .refusal)
   c-first-page-exact = rw (h .0) (paging-exact (pageOf list Start) (now rows))
 
+  pub c-first-page-lowest : LowestGiven (paging (pageOf list Start) (now rows)) (r .refusal)
+  c-first-page-lowest = rw (h .0) (paging-lowest (pageOf list Start) (now rows))
+
   pub c-first-page-keeps : 0 < r .refusal → now (second e) ≡ now rows
   c-first-page-keeps n = h .1 ∙ result-keeps (pageOf list Start) (now rows) r (h .0) n
 
@@ -134,15 +134,32 @@ module _ (κs : _) (list : FenyurkaList) (p q : ℕ) (rows : _) (r : _) (e : _) 
   pub c-page-after-exact : Exact (paging (pageOf list (After p q)) (now rows)) (r .refusal)
   c-page-after-exact = rw (h .0) (paging-exact (pageOf list (After p q)) (now rows))
 
+  pub c-page-after-lowest : LowestGiven (paging (pageOf list (After p q)) (now rows)) (r .refusal)
+  c-page-after-lowest = rw (h .0) (paging-lowest (pageOf list (After p q)) (now rows))
+
+  pub c-page-after-table : LawfulDegree (list .degree) → LawfulTop (list .top) → ByTable (list .degree) p q (r .refusal)
+  c-page-after-table degree top = rw (h .0) (paging-after-table (listOf list) (now rows) p q degree top)
+
   pub c-page-after-keeps : 0 < r .refusal → now (fourth e) ≡ now rows
   c-page-after-keeps n = h .1 ∙ result-keeps (pageOf list (After p q)) (now rows) r (h .0) n
 
-module _ (κs : _) (m p q first : ℕ) (words : _) (r : _) (e : _) (h : c-points.Post κs (m, (p, (q, (first, (words, tt))))) r e) where
+module _ (κs : _) (m p q first : ℕ) (lent : _) (r : _) (e : _) (h : c-points.Post κs (m, (p, (q, (first, (lent, tt))))) r e) where
   pub c-points-exact : Exact (pointing m p q first) (r .refusal)
-  c-points-exact = rw (h .0) (pointing-exact m p q first (now words))
+  c-points-exact = rw (h .0) (pointing-exact m p q first (now lent))
 
-  pub c-points-keep : 0 < r .refusal → now (fifth e) ≡ now words
-  c-points-keep n = h .1 ∙ points-result-keeps m p q first (now words) r (h .0) n
+  pub c-points-lowest : LowestGiven (pointing m p q first) (r .refusal)
+  c-points-lowest = rw (h .0) (pointing-lowest m p q first (now lent))
+
+  pub c-points-table : LawfulDegree m → ByTable m p q (r .refusal)
+  c-points-table lawful = rw (h .0) (pointing-table m p q first (now lent) lawful)
+
+  pub c-points-keep : 0 < r .refusal → now (fifth e) ≡ now lent
+  c-points-keep n = h .1 ∙ points-result-keeps m p q first (now lent) r (h .0) n
+
+-- A pair that judging accepts, from the first word on, into a slice that is long enough.
+module _ (κs : _) (m p q : ℕ) (lent : _) (r : _) (e : _) (h : c-points.Post κs (m, (p, (q, (0, (lent, tt))))) r e) where
+  pub c-points-full : (σ : ℕ) → Conditions m p q σ → period m ≤ length (now lent) → now (fifth e) ≡ over 0 (words p q 0 (period m)) (now lent)
+  c-points-full σ c l = h .1 ∙ period-written m p q σ c (now lent) l
 
 pub c-open-exact : (κs : _) (file : _) (r : _) (e : _) → c-open.Post κs (file, tt) r e → Exact (formSituation (now file)) (r .refusal)
 c-open-exact κs file r e h = rw h (opening-exact (now file))
@@ -150,24 +167,49 @@ c-open-exact κs file r e h = rw h (opening-exact (now file))
 pub c-lookup-exact : (κs : _) (file : _) (m : ℕ) (r : _) (e : _) → c-lookup.Post κs (file, (m, tt)) r e → Exact (looking (now file) m) (r .refusal)
 c-lookup-exact κs file m r e h = rw (h, located-values (now file) m .refusal) (looking-exact (now file) m)
 
+pub c-lookup-lowest : (κs : _) (file : _) (m : ℕ) (r : _) (e : _) → c-lookup.Post κs (file, (m, tt)) r e → LowestGiven (looking (now file) m) (r .refusal)
+c-lookup-lowest κs file m r e h = rw (h, located-values (now file) m .refusal) (looking-lowest (now file) m)
+
+-- The part is empty where the lookup is refused.
+pub c-lookup-empty : (κs : _) (file : _) (m : ℕ) (r : _) (e : _) → c-lookup.Post κs (file, (m, tt)) r e → 0 < r .refusal → r .length ≡ 0
+c-lookup-empty κs file m r e h n =
+    let given = located-values (now file) m in
+    rw (h, located-part (now file) m .whole, given .rows, no-rows (lookupNumbers (now file) m) (rw (h, given .refusal) at n), zero-mul)
+  where
+    no-rows : (k : Lookup) → 0 < value (lookupValues k) 0 → value (lookupValues k) 2 ≡ 0
+    no-rows (Body top rows) some = absurd (omega arith)
+    no-rows (NoBody refusal) some = refl
+
 -- ---- demand 3, the walk of pages
 
--- Asked by the two functions for pages, their contracts being met: no refusal, so many rows, and C's truth for whether a further one exists.
-pub data AskedFromC (list : FenyurkaList) : Position → List ℕ → ℕ → Bool → List ℕ → Type 0 where
-  asked-first : {further : Bool} (κs : _) (rows : _) (r : _) (e : _) → c-first-page.Post κs (list, (rows, tt)) r e → r .refusal ≡ 0
-      → r .more ≡ bit further → AskedFromC list Start (now rows) (r .count) further (now (second e))
-  asked-after : {further : Bool} (κs : _) (p q : ℕ) (rows : _) (r : _) (e : _) → c-page-after.Post κs (list, (p, (q, (rows, tt)))) r e → r .refusal ≡ 0
-      → r .more ≡ bit further → AskedFromC list (After p q) (now rows) (r .count) further (now (fourth e))
+-- Asked by the two functions for pages, their contracts being met: what the struct holds, and the slice at exit.
+pub data AskedFromC (list : FenyurkaList) : Position → List ℕ → ℕ → ℕ → ℕ → List ℕ → Type 0 where
+  asked-first : (κs : _) (rows : _) (r : _) (e : _) → c-first-page.Post κs (list, (rows, tt)) r e
+      → AskedFromC list Start (now rows) (r .refusal) (r .count) (r .more) (now (second e))
+  asked-after : (κs : _) (p q : ℕ) (rows : _) (r : _) (e : _) → c-page-after.Post κs (list, (p, (q, (rows, tt)))) r e
+      → AskedFromC list (After p q) (now rows) (r .refusal) (r .count) (r .more) (now (fourth e))
 
 module _ (list : FenyurkaList) where
-  pub c-faithful : Faithful (listOf list) (AskedFromC list)
-  c-faithful at s n further left (asked-first κs rows r e h z m) = (result-page (pageOf list Start) (now rows) r (h .0) further z m, h .1)
-  c-faithful at s n further left (asked-after κs p q rows r e h z m) =
-      (result-page (pageOf list (After p q)) (now rows) r (h .0) further z m, h .1)
+  c-faithful : Faithful (listOf list) (AskedFromC list)
+  c-faithful at s x n more left (asked-first κs rows r e h) =
+      record { refusal-is = rw (h .0); count-is = rw (h .0); more-is = rw (h .0); slice-is = h .1 }
+  c-faithful at s x n more left (asked-after κs p q rows r e h) =
+      record { refusal-is = rw (h .0); count-is = rw (h .0); more-is = rw (h .0); slice-is = h .1 }
 
-  -- READ FROM C: the pages joined are the whole ranked list.
-  module _ (degree : lawfulDegree (list .degree) ≡ true) (dimension : lawfulTop (list .top) ≡ true) (lent : ℕ → List ℕ) where
-    pub c-calls-whole : ((i : ℕ) → rowWidth (listOf list) ≤ length (lent i)) → {ps : List (List (List ℕ))}
-        → Calls (rowWidth (listOf list)) (AskedFromC list) lent Start 0 ps
-        → (length ps ≤ length (ranked (listOf list)) + 1) × (join ps ≡ ranked (listOf list))
-    c-calls-whole = faithful-whole (listOf list) degree dimension lent c-faithful
+  -- READ FROM C.
+  pub c-page-reads-list : lawfulDegree (list .degree) ≡ true → lawfulTop (list .top) ≡ true → ReadsList (listOf list) (AskedFromC list)
+  c-page-reads-list degree dimension = faithful-list (listOf list) degree dimension c-faithful
+
+-- ---- demand 2, points in pieces
+
+-- Asked by the function for points, its contract being met.
+pub data PointsFromC (m p q : ℕ) : ℕ → List ℕ → ℕ → ℕ → List ℕ → Type 0 where
+  asked-points : {first : ℕ} (κs : _) (lent : _) (r : _) (e : _) → c-points.Post κs (m, (p, (q, (first, (lent, tt))))) r e
+      → PointsFromC m p q first (now lent) (r .refusal) (r .count) (now (fifth e))
+
+c-points-faithful : (m p q : ℕ) → FaithfulPoints m p q (PointsFromC m p q)
+c-points-faithful m p q first s x n left (asked-points κs lent r e h) = record { refusal-is = rw (h .0); count-is = rw (h .0); slice-is = h .1 }
+
+-- READ FROM C.
+pub c-points-reads-period : (m p q σ : ℕ) → Conditions m p q σ → ReadsPeriod m p q (PointsFromC m p q)
+c-points-reads-period m p q σ c = faithful-period m p q σ c (c-points-faithful m p q)

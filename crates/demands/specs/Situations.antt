@@ -1,7 +1,7 @@
 -- Orders of refusals. Of situations with distinct numbers, n is given exactly when situation n applies and none listed before it does, and the value
 -- exactly when none applies. By which situation decides; two refusals are told apart by their numbers alone. Where the numbers ascend, the number
 -- given is the lowest that applies. Assumes nothing.
-use mathlib.Core.Path.{_≡_, refl, sym, _∙_}
+use mathlib.Core.Path.{_≡_, refl, sym, _∙_, subst}
 use mathlib.Core.Logic.{_↔_, _⊎_, inl, inr}
 use mathlib.Core.Bool.{Bool, true, false, cond, not, _&&_, _||_, and-eq-true-iff, false≢true}
 use mathlib.Core.List.{List, [], _∷_, map, List·Memᴰ, List·Memᴰ·head, List·Memᴰ·tail, List·Memᴰ·not-nil, List·Memᴰ·cases-cons}
@@ -150,7 +150,11 @@ decides-first (later {s = s} {l = l} {r = r} e d) a =
     let p = distinct-head (situationNumber s) (numbersOf l) a in
     first-later s l (p .0) e (refusalNumber r) (decides-first d (p .1))
 
-first-decides : (l : List Situation) (n : ℕ) → FirstToApply l n → distinct (numbersOf l) ≡ true → (r : Refusal) × Decides r l × (refusalNumber r ≡ n)
+-- The refusal that decides has the number n.
+abbrev pub Decided : List Situation → ℕ → Type 0
+Decided l n = (r : Refusal) × Decides r l × (refusalNumber r ≡ n)
+
+first-decides : (l : List Situation) (n : ℕ) → FirstToApply l n → distinct (numbersOf l) ≡ true → Decided l n
 unfolding applies
 first-decides [] n w a = absurd (false≢true (w .holds))
 first-decides (s ∷ l) n w a =
@@ -165,6 +169,12 @@ module _ (l : List Situation) (apart : toldApart l ≡ true) where
 
   once : distinct (numbersOf l) ≡ true
   once = distinct-head 0 (numbersOf l) apart .1
+
+  pub first-decided : (n : ℕ) → FirstToApply l n ↔ Decided l n
+  first-decided n = (
+    λ (w : FirstToApply l n). first-decides l n w once,
+    λ (d : Decided l n). subst (FirstToApply l) (d .2) (decides-first (d .1) once),
+  )
 
   -- THE ORDER: n is given exactly when situation n applies and none listed before it does.
   pub given-exactly : (n : ℕ) → 0 < n → (given l ≡ n) ↔ FirstToApply l n

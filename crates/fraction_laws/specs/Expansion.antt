@@ -1,5 +1,5 @@
 -- Euclid's algorithm, step by step: remainders fall, so the number of steps that may be taken does not matter once it is enough, and the expansion of
--- (p, q) is the first quotient before the expansion of (q, rem p q). Assumes nothing.
+-- (p, q) is the first quotient before the expansion of (q, rem p q). What each step keeps holds of every pair. Assumes nothing.
 use mathlib.Core.Path.{_≡_, refl, sym, ap}
 use mathlib.Core.List.{[]}
 use Prim.Native.Nat.{ℕ, zero, suc, _≤_, _<_}
@@ -36,3 +36,17 @@ expansion-more p zero pos = absurd (omega arith)
 expansion-more p (suc q) pos =
     let less = rem-less p (suc q) pos in
     ap (found (quot p (suc q))) (enough q (rem p (suc q)) (suc q) (rem p (suc q)) (omega arith) (omega arith))
+
+-- What holds of (p, 0), and of (p, q) where it holds of (q, rem p q), holds of all pairs.
+module _ (P : ℕ → ℕ → Type 0) (last : (p : ℕ) → P p 0) (more : (p q : ℕ) → 0 < q → P q (rem p q) → P p q) where
+  steps-within : (n p q : ℕ) → q ≤ n → P p q
+  steps-within zero p zero h = last p
+  steps-within zero p (suc q) h = absurd (omega arith)
+  steps-within (suc n) p zero h = last p
+  steps-within (suc n) p (suc q) h =
+      let pos : 0 < suc q = omega arith in
+      let less = rem-less p (suc q) pos in
+      more p (suc q) pos (steps-within n (suc q) (rem p (suc q)) (omega arith))
+
+  pub euclid-ind : (p q : ℕ) → P p q
+  euclid-ind p q = steps-within q p q (omega arith)

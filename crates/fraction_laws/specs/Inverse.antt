@@ -2,7 +2,7 @@
 -- has an inverse modulo p; that is so for every pair with linear quotients. Assumes nothing.
 use mathlib.Core.Path.{_≡_, _∙_}
 use mathlib.Core.Bool.{true}
-use Prim.Native.Nat.{ℕ, zero, suc, _^_, _≤_, _<_}
+use Prim.Native.Nat.{ℕ, _^_, _≤_, _<_}
 use native.Mathlib.Omega.{arith}
 use Rattle.definitions.specs.Polynomial.{_⊕_, degree, prod, quot, rem}
 use Rattle.definitions.specs.Generator.{found, expansion, linearQuotients}
@@ -10,7 +10,7 @@ use Rattle.polynomial_laws.specs.Sum.{⊕-sums, ⊕-zero}
 use Rattle.polynomial_laws.specs.Product.{⊕-prod, prod-⊕, prod-zero, prod-one, prod-comm, prod-factors}
 use Rattle.polynomial_laws.specs.Division.{division, rem-lt, rem-unique, rem-prod-right}
 use Rattle.polynomial_laws.specs.Power.{one-small}
-use Rattle.fraction_laws.specs.Expansion.{rem-less, expansion-zero, expansion-more}
+use Rattle.fraction_laws.specs.Expansion.{expansion-zero, expansion-more, euclid-ind}
 use Rattle.fraction_laws.specs.Quotients.{linearQuotients-is}
 
 -- p u + q v = g
@@ -32,16 +32,10 @@ combination-step a p q r g whole h =
 combination-last : (p : ℕ) → Combination p 0 (expansion p 0 .common)
 combination-last p = rw expansion-zero (record { u = 1; v = 0; sum = rw (prod-one, prod-zero, ⊕-zero) })
 
-combination : (n p q : ℕ) → q ≤ n → Combination p q (expansion p q .common)
+combination : (p q : ℕ) → Combination p q (expansion p q .common)
 unfolding found
-combination zero p zero h = combination-last p
-combination zero p (suc q) h = absurd (omega arith)
-combination (suc n) p zero h = combination-last p
-combination (suc n) p (suc q) h =
-    let pos : 0 < suc q = omega arith in
-    let less = rem-less p (suc q) pos in
-    rw (expansion-more p (suc q) pos)
-    (combination-step (quot p (suc q)) p (suc q) (rem p (suc q)) _ (division (suc q) pos p) (combination n (suc q) (rem p (suc q)) (omega arith)))
+combination = euclid-ind (λ p q. Combination p q (expansion p q .common)) combination-last (λ p q pos h.
+    rw (expansion-more p q pos) (combination-step (quot p q) p q (rem p q) _ (division q pos p) h))
 
 -- r is q's inverse modulo p
 pub record Inverse (p q : ℕ) : Type 0 where
@@ -52,7 +46,7 @@ pub record Inverse (p q : ℕ) : Type 0 where
 pub linear-invertible : (p q : ℕ) → 2 ≤ p → linearQuotients p q ≡ true → Inverse p q
 linear-invertible p q big t =
     let pos : 0 < p = omega arith in
-    let h = combination q p q (omega arith) in
+    let h = combination p q in
     let e : prod (h .u) p ⊕ 1 ≡ prod q (h .v) = rw (← linearQuotients-is p q .0 t .coprime, ← h .sum, prod-comm (h .u) p) (simp ⊕-sums) in
     record {
       r = rem (h .v) p;

@@ -5,3 +5,4 @@ pub mod Quotients
 pub mod Level
 pub mod Tree
 pub mod Inverse
+pub mod Euclid

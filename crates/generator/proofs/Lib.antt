@@ -1,5 +1,3 @@
 -- What the proofs of judging share.
 pub mod CommonDivisor
-pub mod DivisorLoop
-pub mod DivisorTable
-pub mod Finder
+pub mod Degrees

@@ -11,7 +11,7 @@ use Rattle.definitions.specs.declared.Refusal.{Refusal}
 use Rattle.definitions.specs.declared.Refusal.the-variants.{WrongDegree, IllFormedPair, NotPrimitive, QuotientNotLinear, StepNotCoprime}
 use Rattle.definitions.specs.declared.Judgement.{Judgement}
 use Rattle.definitions.specs.declared.Judgement.the-variants.{Accepted, Rejected}
-use Rattle.answer_laws.specs.Unless.{Decides, here, later, NoneApplies, passes, at-end}
+use Rattle.answer_laws.specs.Unless.{Decides, here, later, NoneApplies, passes, at-end, unless-applies, unless-passes}
 use Rattle.generator.specs.declared.pair.Verdict.{Verdict}
 use Rattle.generator.specs.declared.pair.Verdict.the-variants.{Refused, Passed}
 
@@ -24,12 +24,12 @@ unfoldable pub pairVerdict : ℕ → ℕ → ℕ → Verdict
 pairVerdict m p q = unless (pairSituations m p q) Refused Passed
 
 pub judgement-unlawful : (m p q : ℕ) → lawfulDegree m ≡ false → judgement m p q ≡ Rejected WrongDegree
-unfolding judgement judging unless
-judgement-unlawful m p q h = rw h
+unfolding judgement judging
+judgement-unlawful m p q h = unless-applies Rejected _ _ _ (ap not h)
 
 pub judgement-lawful : (m p q : ℕ) → lawfulDegree m ≡ true → judgement m p q ≡ pairJudgement m p q
-unfolding judgement judging unless pairJudgement
-judgement-lawful m p q h = rw h
+unfolding judgement judging pairJudgement
+judgement-lawful m p q h = unless-passes Rejected _ _ _ (ap not h)
 
 pub coprimeStep-def : (m p q : ℕ) → coprimeStep m p q ≡ eqb (gcd (step m p q) (period m)) 1
 unfolding coprimeStep

@@ -5,10 +5,6 @@ use definitions::Judgement;
 use definitions::Refusal;
 
 pub mod common_divisor; // the greatest common divisor of two numbers
-pub mod degrees; // the leading term of a degree
-pub mod divisors; // the table of prime divisors of 2^m - 1
-pub mod primitive; // the tests by powers over that table: of p, and of q's order
-pub mod step; // the step finder
 pub mod pair; // judging a pair of a lawful degree
 
 // The step of a pair of the degree given, or document 01's refusal 1, 3, 4, 5 or 6.

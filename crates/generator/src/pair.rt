@@ -4,12 +4,12 @@ ghost use Rattle.definitions.specs.Generator.{wellFormed};
 ghost use Rattle.number_laws.specs.Bounds.{LawfulDegree};
 ghost use Rattle.generator.specs.Judging.{pairJudgement, pairVerdict, Checked};
 use crate::common_divisor;
-use crate::degrees;
-use crate::primitive;
-use crate::step;
 use definitions::Judgement;
 use definitions::Refusal;
-use polynomial::fractions;
+use fractions::quotients;
+use orders::primitive;
+use orders::step;
+use polynomial::digits;
 
 // Why a pair is refused, or that it is not.
 pub enum Verdict {
@@ -17,22 +17,21 @@ pub enum Verdict {
     Passed,
 }
 
-// 2^m ≤ p < 2^(m+1) and 1 ≤ q < 2^m.
+// 2^m ≤ p < 2^(m+1) and 1 ≤ q < 2^m: p has the degree m, and q is not 0 and has a smaller one.
 pub fn is_well_formed(m: u32, p: u32, q: u32) -> bool
     requires { ⌜ LawfulDegree m ⌝ }
     ensures { λ r. ⌜ r ≡ wellFormed m p q ⌝ }
 {
-    let lead = degrees::leading_term(m);
-    if p < lead {
+    if p == 0 {
         return false;
     }
-    if p >= 2 * lead {
+    if digits::degree_of(p) != m {
         return false;
     }
     if q == 0 {
         return false;
     }
-    q < lead
+    digits::degree_of(q) < m
 }
 
 // Document 01's refusal 3, 4 or 5, the tests in this order, so that the lowest number is given.
@@ -46,7 +45,7 @@ fn check_polynomials(m: u32, p: u32, q: u32) -> Verdict
     if !primitive::is_primitive(m, p) {
         return Verdict::Refused(Refusal::NotPrimitive);
     }
-    if !fractions::linear_quotients(p, q, degrees::leading_term(m)) {
+    if !quotients::linear_quotients(p, q, digits::leading_term(m)) {
         return Verdict::Refused(Refusal::QuotientNotLinear);
     }
     Verdict::Passed
@@ -77,7 +76,7 @@ pub fn judge_pair(m: u32, p: u32, q: u32) -> Judgement
         Verdict::Refused(refusal) => Judgement::Rejected(refusal),
         Verdict::Passed => {
             let step = step::find_step(m, p, q);
-            if common_divisor::gcd_of(step, degrees::leading_term(m) - 1) != 1 {
+            if common_divisor::gcd_of(step, digits::leading_term(m) - 1) != 1 {
                 return Judgement::Rejected(Refusal::StepNotCoprime);
             }
             Judgement::Accepted(step)

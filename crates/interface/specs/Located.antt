@@ -10,8 +10,9 @@ use Rattle.definitions.specs.Catalogue.{lookupNumbers, lookupPart}
 use Rattle.catalogue.specs.declared.seek.Located.{Located}
 use Rattle.catalogue.specs.declared.seek.Located.the-variants.{At, Missing}
 use Rattle.catalogue.specs.Seek as seek
-use Rattle.results.specs.Results.{value, bodyResult}
-use Rattle.results.specs.declared.catalogues.FenyurkaBody.{FenyurkaBody}
+use Rattle.results.specs.Results.{value}
+use Rattle.catalogue_results.specs.Results.{bodyResult}
+use Rattle.catalogue_results.specs.declared.FenyurkaBody.{FenyurkaBody}
 
 -- What C is answered: the struct of where the body lies.
 abbrev pub located : List ℕ → ℕ → FenyurkaBody

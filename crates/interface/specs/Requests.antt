@@ -6,8 +6,8 @@ use Rattle.definitions.specs.Catalogue.{nextRow, nextPlace}
 use Rattle.definitions.specs.declared.Position.{Position}
 use Rattle.definitions.specs.declared.Selection.{Selection}
 use Rattle.definitions.specs.declared.PageRequest.{PageRequest}
-use Rattle.results.specs.Results.{rowResult}
-use Rattle.results.specs.declared.catalogues.FenyurkaRow.{FenyurkaRow}
+use Rattle.catalogue_results.specs.Results.{rowResult}
+use Rattle.catalogue_results.specs.declared.FenyurkaRow.{FenyurkaRow}
 use Rattle.interface.specs.declared.FenyurkaList.{FenyurkaList}
 
 -- The list that C means.

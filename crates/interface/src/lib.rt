@@ -4,10 +4,14 @@ ghost use mathlib.Core.Path.{_≡_};
 ghost use Rattle.definitions.specs.Answers.{judgementValues, uniformityValues, pageValues, pointsValues, openingValues};
 ghost use Rattle.definitions.specs.Calls.{judgement, uniformity, pageAnswer, pageSlice, pointsAnswer, pointsSlice};
 ghost use Rattle.definitions.specs.Catalogue.{opening};
-ghost use Rattle.results.specs.Results.{judgementResult, tValueResult, pageResult, pointsResult, catalogueResult};
+ghost use Rattle.results.specs.Results.{judgementResult, tValueResult, pageResult, pointsResult};
+ghost use Rattle.catalogue_results.specs.Results.{catalogueResult};
 ghost use Rattle.interface.specs.Requests.{pageOf, rowAtPlace};
 ghost use Rattle.interface.specs.Located.{located};
 use catalogue::seek;
+use catalogue_results::FenyurkaBody;
+use catalogue_results::FenyurkaCatalogue;
+use catalogue_results::FenyurkaRow;
 use definitions::PageRequest;
 use definitions::Position;
 use definitions::Selection;
@@ -15,10 +19,6 @@ use results::FenyurkaJudgement;
 use results::FenyurkaPage;
 use results::FenyurkaPoints;
 use results::FenyurkaTValue;
-use results::catalogues;
-use results::catalogues::FenyurkaBody;
-use results::catalogues::FenyurkaCatalogue;
-use results::catalogues::FenyurkaRow;
 
 // Which ranked list is meant: the degree and the top dimension.
 #[repr(C)]
@@ -97,7 +97,7 @@ pub extern "C" fn fenyurka_points(
 pub extern "C" fn fenyurka_open(file: &[u8]) -> FenyurkaCatalogue
     ensures { λ r. ⌜ r ≡ catalogueResult (openingValues (opening (now (file .entry)))) ⌝ }
 {
-    catalogues::catalogue(catalogue::open(file))
+    catalogue_results::catalogue(catalogue::open(file))
 }
 
 // A degree's body: its top dimension and row count, where it lies in the file, and how many bytes it and a row of it have.
@@ -105,7 +105,7 @@ pub extern "C" fn fenyurka_open(file: &[u8]) -> FenyurkaCatalogue
 pub extern "C" fn fenyurka_lookup(file: &[u8], degree: u32) -> FenyurkaBody
     ensures { λ r. ⌜ r ≡ located (now (file .entry)) degree ⌝ }
 {
-    catalogues::body(seek::locate(file, degree))
+    catalogue_results::body(seek::locate(file, degree))
 }
 
 // The row at a place of a body and the place behind it, or the end.
@@ -116,5 +116,5 @@ pub extern "C" fn fenyurka_row(list: FenyurkaList, body: &[u8], place: usize) ->
     let degree = list.degree;
     let top = list.top;
     let next = catalogue_rows::place_behind(body, degree, top, place);
-    catalogues::row(catalogue_rows::row_at(body, degree, top, place), top, next)
+    catalogue_results::row(catalogue_rows::row_at(body, degree, top, place), top, next)
 }

@@ -1,27 +1,13 @@
--- Each line of the listing is a line of words and numbers. Assumes nothing.
+-- Each line of the listing round its pages is a line of words and numbers. Assumes nothing.
 use mathlib.Core.Path.{_≡_, refl}
-use mathlib.Core.Bool.{Bool, cond}
-use mathlib.Core.List.{List, [], _∷_, _++_, append-assoc}
+use mathlib.Core.List.{[], _∷_}
 use Prim.Native.Nat.{ℕ}
-use Rattle.definitions.specs.Listing.{decimal, newline, headerText, pageText, totalText, refusedText, letters}
+use Rattle.definitions.specs.Listing.{newline, headerText, totalText, refusedText, letters}
 use Rattle.text.specs.Lines.{shortLine, longLine}
 
 pub header-line : (m top : ℕ) → headerText m top ≡ longLine (letters "degree ") m (letters " top ") top (newline ∷ [])
 unfolding headerText
 header-line m top = refl
-
--- The line of a page with its ending, which has at most six letters.
-abbrev pub mostEnding : ℕ
-mostEnding = 6
-
-abbrev pub pageLine : ℕ → ℕ → List ℕ → List ℕ
-pageLine number rows ending = longLine (letters "page ") number (letters " rows ") rows ending
-
-pub page-line : (number rows : ℕ) (further : Bool)
-    → pageText number rows further ≡ pageLine number rows (cond further (letters " more") (letters " end") ++ newline ∷ [])
-unfolding pageText
-page-line number rows further =
-    append-assoc (letters "page " ++ decimal number ++ letters " rows " ++ decimal rows) (cond further (letters " more") (letters " end")) (newline ∷ [])
 
 pub total-line : (rows : ℕ) → totalText rows ≡ shortLine (letters "total ") rows
 unfolding totalText

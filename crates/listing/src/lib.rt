@@ -1,14 +1,8 @@
 // The line that is read and the text that is printed, on byte slices. A text is put at a place of a buffer: where it fits, the answer
 // is the place behind it; where it does not, nothing is written and the answer is the place itself.
 ghost use mathlib.Core.Path.{_≡_};
-ghost use Prim.Native.Nat.{_≤_};
-ghost use lib.ListN.{length};
 ghost use Rattle.definitions.specs.Listing.{decimal, headerText, rowText, pageText, totalText, refusedText, readLine};
-ghost use Rattle.listing.specs.Texts.{pageLine, mostEnding};
-ghost use Rattle.text.specs.Place.{placed, behind};
-
-pub mod printing;
-
+ghost use Rattle.slice_laws.specs.Place.{placed, behind};
 use definitions::Line;
 use text::lines::put_line;
 use text::lines::put_long_line;
@@ -62,20 +56,7 @@ pub fn put_page(out: &mut [u8], at: usize, number: u32, rows: u32, further: bool
     ensures { λ r. ⌜ r ≡ behind at (pageText number rows further) (now (out .entry)) ⌝ }
     ensures { λ _. ⌜ now (out .exit) ≡ placed at (pageText number rows further) (now (out .entry)) ⌝ }
 {
-    if further {
-        put_page_line(out, at, number, rows, b" more\n")
-    } else {
-        put_page_line(out, at, number, rows, b" end\n")
-    }
-}
-
-// The same with the ending that says whether more follow.
-fn put_page_line(out: &mut [u8], at: usize, number: u32, rows: u32, ending: &[u8]) -> usize
-    requires { ⌜ length (now ending) ≤ mostEnding ⌝ }
-    ensures { λ r. ⌜ r ≡ behind at (pageLine number rows (now (ending .entry))) (now (out .entry)) ⌝ }
-    ensures { λ _. ⌜ now (out .exit) ≡ placed at (pageLine number rows (now (ending .entry))) (now (out .entry)) ⌝ }
-{
-    put_long_line(out, at, b"page ", number, b" rows ", rows, ending)
+    page_line::put_page(out, at, number, rows, further)
 }
 
 // The line below a list: the sum of all rows.

@@ -1,3 +1,2 @@
--- What is printed upon a line, and how long it is.
-pub mod Decision
-pub mod Room
+-- What the contracts of this crate cite.
+pub mod Rooms

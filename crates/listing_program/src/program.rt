@@ -1,33 +1,80 @@
-// One line is read, and its list printed, or why there is none. No contract can say what is read or written: `answer` hands back what it prints.
-ghost use mathlib.Core.Path.{_≡_};
-ghost use Rattle.definitions.specs.Listing.{listing};
-ghost use Rattle.listing_program.specs.Decision.{printedText};
-use crate::asking::UNREADABLE;
-use crate::asking::print_answer;
-use crate::asking::read_input;
-use crate::output::LINE_ROOM;
-use crate::output::print_refused;
-use definitions::Line;
+// One line is read, and its list printed, or why there is none: the parts of its text, one after the other. What they are is proved of
+// `listing_parts`; that they are written no contract can say.
+ghost use Prim.Native.Nat.{_≤_};
+ghost use lib.ListN.{length};
+ghost use Rattle.definitions.specs.Ranking.{longestRow};
+ghost use Rattle.listing_parts.specs.Room.{stepRoom};
+ghost use Rattle.listing_parts.specs.Left.{Underway};
+ghost use Rattle.listing_program.specs.Rooms.{mostNumbers, mostBytes};
+use crate::input::LINE_ROOM;
+use crate::input::read_input;
+use libc::STDOUT_FILENO;
+use listing_parts::Printing;
+use listing_parts::parts;
 
-// What is printed: the list of a degree up to a top dimension in pages of a size, or the number of a refusal.
-pub enum Printed {
-    Listed(u32, u32, u32),
-    Refused(u32),
+// More rows than any list has, so that one search serves a whole list.
+const ROWS_AT_HAND: usize = 4096;
+
+// The numbers of so many rows, and the bytes of their text.
+const MOST_NUMBERS: usize = ROWS_AT_HAND * limits::LONGEST_ROW;
+
+const MOST_BYTES: usize = ROWS_AT_HAND * parts::STEP_ROOM;
+
+// The first n bytes of a text.
+fn show(text: &[u8], n: usize)
+    requires { ⌜ n ≤ length (now text) ⌝ }
+{
+    io::write_all(STDOUT_FILENO, &text[..n]);
 }
 
-// What is printed for the bytes of a line.
-pub fn answer(input: &[u8]) -> Printed
-    ensures { λ r. ⌜ printedText r ≡ listing (now (input .entry)) ⌝ }
+// All that is left, part by part.
+fn print_parts(first: Printing, rows: &mut [u32], text: &mut [u8])
+    requires { ⌜ Underway first ⌝ }
+    requires { ⌜ longestRow ≤ length (now rows) ⌝ }
+    requires { ⌜ stepRoom ≤ length (now text) ⌝ }
 {
-    match listing::read_line(input) {
-        Line::Asked(degree, top, size) => print_answer(degree, top, size),
-        Line::Unreadable => print_refused(UNREADABLE),
+    let mut at = first;
+    let mut more = true;
+    while more {
+        let part = parts::next(at, rows, text);
+        show(text, part.bytes);
+        at = part.next;
+        more = part.more;
     }
 }
 
+// The listing of a line, in parts that the first numbers and bytes of the slices hold.
+fn print_within(input: &[u8], rows: &mut [u32], text: &mut [u8], numbers: usize, bytes: usize)
+    requires { ⌜ (longestRow ≤ numbers) × (numbers ≤ length (now rows)) ⌝ }
+    requires { ⌜ (stepRoom ≤ bytes) × (bytes ≤ length (now text)) ⌝ }
+{
+    let first = listing_parts::start(input);
+    print_parts(first, &mut rows[..numbers], &mut text[..bytes]);
+}
+
+// The listing of a line, in parts that so many numbers and bytes hold.
+pub fn print(input: &[u8], numbers: usize, bytes: usize)
+    requires { ⌜ (longestRow ≤ numbers) × (numbers ≤ mostNumbers) ⌝ }
+    requires { ⌜ (stepRoom ≤ bytes) × (bytes ≤ mostBytes) ⌝ }
+{
+    let mut numbers_at_hand = [0u32; MOST_NUMBERS];
+    let rows: &mut [u32] = &mut numbers_at_hand;
+    let mut bytes_at_hand = [0u8; MOST_BYTES];
+    let text: &mut [u8] = &mut bytes_at_hand;
+    print_within(input, rows, text, numbers, bytes);
+}
+
 // The same for the line that stands at standard input.
-pub fn run() {
+pub fn run_within(numbers: usize, bytes: usize)
+    requires { ⌜ (longestRow ≤ numbers) × (numbers ≤ mostNumbers) ⌝ }
+    requires { ⌜ (stepRoom ≤ bytes) × (bytes ≤ mostBytes) ⌝ }
+{
     let mut input = [0u8; LINE_ROOM];
     let n = read_input(&mut input);
-    answer(&input[..n]);
+    print(&input[..n], numbers, bytes);
+}
+
+// The same with all the room at hand.
+pub fn run() {
+    run_within(MOST_NUMBERS, MOST_BYTES);
 }

@@ -2,8 +2,8 @@
 ghost use Rattle.fraction_laws.specs.WellFormed.{WellFormed};
 ghost use Rattle.number_laws.specs.Bounds.{LawfulDegree};
 ghost use Rattle.net.specs.Bound.{Stop};
-use generator::degrees;
-use polynomial::fractions;
+use fractions::quotients;
+use polynomial::digits;
 
 // The bound for every pair.
 pub const ANY_PAIR: usize = 1;
@@ -17,8 +17,8 @@ pub fn stop_bound(degree: u32, p: u32, q: u32) -> usize
     requires { ⌜ WellFormed degree p q ⌝ }
     ensures { λ f. ⌜ Stop degree p q f ⌝ }
 {
-    let lead = degrees::leading_term(degree);
-    if fractions::linear_quotients(p, q, lead) {
+    let lead = digits::leading_term(degree);
+    if quotients::linear_quotients(p, q, lead) {
         return INVERTIBLE;
     }
     ANY_PAIR

@@ -1,5 +1,5 @@
--- An accepted pair: its step lies strictly between 0 and 2^m - 1 and gives q, and its states are the full period: every nonzero residue, once.
--- A step of 2^m - 1 itself would not be coprime to it. Assumes nothing.
+-- The step: modulo a primitive p every nonzero residue q but 1 has one strictly between 0 and 2^m - 1; so has an accepted pair, since 2^m - 1 is not
+-- coprime to itself. The states of an accepted pair are the full period: every nonzero residue, once. Assumes nothing.
 use mathlib.Core.Path.{_≡_, sym, ap, _∙_}
 use mathlib.Core.Logic.{_≢_, _↔_}
 use mathlib.Core.Bool.{true, _&&_, and-eq-true-iff}
@@ -14,7 +14,7 @@ use Rattle.definitions.specs.Points.{state}
 use Rattle.number_laws.specs.Gcd.{coprime-only}
 use Rattle.number_laws.specs.Pigeon.{Reached}
 use Rattle.polynomial_laws.specs.Degree.{HasDegree}
-use Rattle.order_laws.specs.Step.{step-from, step-to, step-found}
+use Rattle.order_laws.specs.Step.{step-from, step-to, step-found, step-power, step-below}
 use Rattle.order_laws.specs.State.{state-lt}
 use Rattle.order_laws.specs.Orbit.{Apart, coprimeStep-is, state-nonzero, states-apart, states-reach, period-recurs}
 
@@ -52,6 +52,14 @@ coprime-step m p q low c = record { positive = step-from m p q; below = below; g
 
     below : step m p q < period m
     below = omega (arith, not-period, step-to m p q (omega arith))
+
+-- Modulo a primitive p every nonzero residue but 1 has a step.
+pub every-step : (m p : ℕ) → 1 ≤ m → HasDegree p m → primitive m p ≡ true → (q : ℕ) → 0 < q → q < 2 ^ m → q ≢ 1 → IsStep m p q (step m p q)
+every-step m p low d t q nonzero residue other = record {
+  positive = step-from m p q;
+  below = step-below m p low d t q nonzero residue other;
+  gives = step-power m p low d t q nonzero residue;
+}
 
 -- The states of a pair are the full period.
 pub record FullPeriod (m p q : ℕ) : Type 0 where

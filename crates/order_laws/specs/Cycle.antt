@@ -1,5 +1,5 @@
 -- The full cycle: where x has the order N, the powers x^0 .. x^(N-1) are distinct and none is 0, since each has a power that completes it to x^N = 1.
--- For N = 2^m - 1 they are as many as the nonzero residues, so by the pigeonhole principle each of these is one of them, once.
+-- For N = 2^m - 1 they are as many as the nonzero residues, so by the pigeonhole principle each of these is one of them, once, and has an inverse.
 -- Assumes nothing.
 use mathlib.Core.Path.{_≡_, sym, _∙_}
 use mathlib.Core.Logic.{_≢_}
@@ -62,3 +62,11 @@ full-cycle m p positive d t y nonzero residue =
       most = λ e l. omega (arith, rw (degree-unique p m d) at (rem-lt p (omega (arith, big)) (2 ^ e)));
       apart = powers-apart p big (period m) order;
     }
+
+-- So each has an inverse: the power that completes it.
+pub cycle-inverse : (m p : ℕ) → 1 ≤ m → HasDegree p m → primitive m p ≡ true → (y : ℕ) → 0 < y → y < 2 ^ m → (r : ℕ) × (rem (prod y r) p ≡ 1)
+cycle-inverse m p low d t y nonzero residue =
+    let w = full-cycle m p low d t y nonzero residue in
+    let e = w .exponent in
+    let power = completed p (degree-big m p low d) (period m) (primitive-order m p low t) e (omega (arith, w .below)) in
+    (rem (2 ^ (period m - e)) p, rw (w .gives) at power)

@@ -1,4 +1,4 @@
--- Laws of orders: the smallest exponent that gives 1, the table of prime divisors, primitive polynomials, the full cycle, the step, the order of q.
+-- Laws of orders: the smallest exponent that gives 1, the table of prime divisors, primitive polynomials, the full cycle, the step, the order of q, words.
 pub mod Exponents
 pub mod Table
 pub mod Powers
@@ -9,3 +9,4 @@ pub mod Step
 pub mod State
 pub mod Orbit
 pub mod Accepted
+pub mod Words

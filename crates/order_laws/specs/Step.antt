@@ -45,7 +45,7 @@ module _ (m p : ℕ) (positive : 1 ≤ m) (d : HasDegree p m) (t : primitive m p
   order = primitive-order m p positive t
 
   -- no other power than x^(2^m - 1) is 1
-  step-one : step m p 1 ≡ period m
+  pub step-one : step m p 1 ≡ period m
   step-one =
       step-def m p 1
       ∙ first-none (period m - 1) 1 (gives p 1) (λ e h l. ne-eqb (rem (2 ^ e) p) 1 (λ k. omega (arith, order .least e h k)))

@@ -3,7 +3,7 @@
 -- before the slot stand there already; where there is no room the last falls off. Assumes nothing.
 use mathlib.Core.Path.{_≡_, refl, sym, ap, _∙_}
 use mathlib.Core.Bool.{true, false}
-use mathlib.Core.List.{List, [], _∷_, _++_, append-assoc, List·Memᴰ, List·Memᴰ·head, List·Memᴰ·tail, List·Memᴰ·not-nil}
+use mathlib.Core.List.{List, [], _∷_, _++_, append-nil, append-assoc, List·Memᴰ, List·Memᴰ·head, List·Memᴰ·tail, List·Memᴰ·not-nil}
 use Prim.Native.Nat.{ℕ, zero, suc, _+_, _*_, _<_, _≤_, min}
 use native.Mathlib.Nat.{suc-mul, zero-mul, add-comm, suc-add, zero-add, mul-le-mul-right, le-trans}
 use native.Mathlib.Omega.{arith}
@@ -42,6 +42,11 @@ unfoldable pub inserted : (List ℕ → List ℕ) → ℕ → ℕ → List ℕ �
 inserted key w cap r s = let rows = take cap (insert key r (rowsOf w (s .n) (s .out))) in record { out = over 0 (join rows) (s .out); n = length rows }
 
 -- ---- lists of lists joined
+
+-- One more behind them.
+pub join-last : {X : Type 0} (a : List (List X)) (r : List X) → join (a ++ r ∷ []) ≡ join a ++ r
+join-last [] r = append-nil r
+join-last (x ∷ a) r = rw (join-last a r) (sym (append-assoc x (join a) r))
 
 join-append : (a b : List (List ℕ)) → join (a ++ b) ≡ join a ++ join b
 join-append [] b = refl

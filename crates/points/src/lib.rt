@@ -3,9 +3,9 @@ ghost use mathlib.Core.Path.{_≡_};
 ghost use Rattle.definitions.specs.Calls.{pointsAnswer, pointsSlice};
 use definitions::PointsAnswer;
 use definitions::Refusal;
-use generator::degrees;
 use generator::pair;
 use generator::pair::Verdict;
+use polynomial::digits;
 use words::writing;
 
 // Writes words first, first + 1, .. until the slice or the period ends, and says how many; or document 01's refusal 1, 3, 4, 5, 6 or 8.
@@ -19,7 +19,7 @@ pub fn points(degree: u32, p: u32, q: u32, first: u32, out: &mut [u32]) -> Point
     match pair::check_pair(degree, p, q) {
         Verdict::Refused(refusal) => PointsAnswer::NotWritten(refusal),
         Verdict::Passed => {
-            let last = degrees::leading_term(degree) - 2;
+            let last = digits::leading_term(degree) - 2;
             if first > last {
                 return PointsAnswer::NotWritten(Refusal::BeyondPeriod);
             }

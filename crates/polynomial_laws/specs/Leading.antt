@@ -1,14 +1,17 @@
 -- The leading digits of y/p, one more at a time: the next digit stands at x^m of twice the rest, as long division has it. In y they are additive, and
--- so is the residue of a product in its factor.
+-- so is the residue of a product in its factor. As many digits as p's degree tell the y apart: they are 0 for y = 0 alone.
 -- Assumes nothing.
 use mathlib.Core.Path.{_≡_, refl, sym, ap, ap₂, _∙_}
-use Prim.Native.Nat.{ℕ, zero, suc, _+_, _*_, _/_, _^_, _<_}
+use Prim.Native.Nat.{ℕ, zero, suc, _+_, _*_, _/_, _^_, _≤_, _<_}
 use native.Mathlib.Nat.{add-zero, mul-one, mul-comm, zero-mul, pow-zero, pow-suc, pow-succ'}
 use native.Mathlib.Omega.{arith}
+use lib.Pow.{pow-mono}
 use Rattle.definitions.specs.Polynomial.{_⊕_, degree, prod, quot, rem}
 use Rattle.definitions.specs.Points.{leading}
 use Rattle.polynomial_laws.specs.Additive.{Additive}
-use Rattle.polynomial_laws.specs.Product.{prod-⊕, prod-zero}
+use Rattle.polynomial_laws.specs.Sum.{zero-⊕, ⊕-self, ⊕-equal}
+use Rattle.polynomial_laws.specs.Product.{zero-prod, prod-⊕, prod-zero}
+use Rattle.polynomial_laws.specs.Division.{rem-lt, division}
 use Rattle.polynomial_laws.specs.Division.{quot-zero, quot-small, quot-double, quot-⊕, rem-zero, rem-small, rem-double, rem-⊕, next-digit}
 use Rattle.polynomial_laws.specs.Power.{power-prod}
 
@@ -54,6 +57,19 @@ module _ (p : ℕ) (pos : 0 < p) where
   -- ---- of a sum
   pub leading-additive : (d : ℕ) → Additive (leading p d)
   leading-additive d a b = simp leading-def (rw (shift-⊕ d, quot-⊕ p pos))
+
+  -- ---- as many as p's degree
+  module _ (d : ℕ) (enough : degree p ≤ d) where
+    leading-some : (y : ℕ) → leading p d y ≡ 0 → y ≡ 0
+    leading-some zero none = refl
+    leading-some (suc y) none =
+        let shifted = suc y * 2 ^ d in
+        let digits : quot shifted p ≡ 0 = sym (leading-def p d (suc y)) ∙ none in
+        let whole : rem shifted p ≡ shifted = sym (zero-⊕ (rem shifted p)) ∙ rw (← zero-prod p, ← digits) (division p pos shifted) in
+        absurd (omega (arith, rem-lt p pos shifted, pow-mono enough))
+
+    pub leading-apart : (y z : ℕ) → leading p d y ≡ leading p d z → y ≡ z
+    leading-apart y z same = ⊕-equal y z (leading-some (y ⊕ z) (leading-additive d y z ∙ rw same (⊕-self (leading p d z))))
 
   pub residue-additive : (q : ℕ) → Additive (λ y. rem (prod q y) p)
   residue-additive q a b = rw (prod-⊕, rem-⊕ p pos)

@@ -16,8 +16,8 @@ use Rattle.definitions.specs.declared.PageAnswer.the-variants.{Page, NoPage}
 use Rattle.answer_laws.specs.Unless.{Decides, here, later, NoneApplies, passes, at-end, decides-front, decides-behind, none-append}
 use Rattle.answer_laws.specs.Together.{answered-refused, answered-given}
 use Rattle.answer_laws.specs.Lent.{answers-page}
-use Rattle.ranking.specs.Serve.{Filled}
-use Rattle.ranking.specs.declared.serve.Served.{Served}
+use Rattle.page_rows.specs.Serve.{Filled}
+use Rattle.page_rows.specs.declared.serve.Served.{Served}
 
 module _ (r : PageRequest) (s : List ℕ) where
   -- What is answered, and what the slice holds then.

@@ -9,7 +9,7 @@ use Rattle.definitions.specs.declared.Refusal.{Refusal}
 use Rattle.definitions.specs.declared.Selection.{Selection}
 use Rattle.definitions.specs.declared.Position.{Position}
 use Rattle.definitions.specs.declared.Position.the-variants.{Start, After}
-use Rattle.answer_laws.specs.Unless.{Decides, NoneApplies, given-exactly, refused-exactly}
+use Rattle.answer_laws.specs.Unless.{Decides, NoneApplies, at-end, unless-given, given-exactly, refused-exactly}
 use Rattle.fraction_laws.specs.WellFormed.{wellFormed-is}
 use Rattle.ranking_laws.specs.Met.{ruleOf}
 use Rattle.ranking_laws.specs.Reading.{ListedPosition, at-start, after-listed}
@@ -17,12 +17,12 @@ use Rattle.generator.specs.Judging.{pairVerdict}
 use Rattle.generator.specs.Refusals.{passed-well-formed, passed-accepted}
 use Rattle.generator.specs.declared.pair.Verdict.{Verdict}
 use Rattle.generator.specs.declared.pair.Verdict.the-variants.{Refused, Passed}
-use Rattle.ranking.specs.Serve.{positionVerdict}
+use Rattle.ranking.specs.Positions.{positionVerdict}
 
 module _ (m : ℕ) {at : Position} where
   pub start-passes : at ≡ Start → Passed ≡ positionVerdict m at
-  unfolding positionVerdict positionSituations unless
-  start-passes e = rw e
+  unfolding positionVerdict positionSituations
+  start-passes e = rw e (sym (unless-given Refused Passed at-end))
 
   pub pair-decides : {p q : ℕ} {v : Verdict} → at ≡ After p q → v ≡ pairVerdict m p q → v ≡ positionVerdict m at
   unfolding positionVerdict positionSituations pairVerdict

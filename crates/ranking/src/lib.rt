@@ -7,9 +7,10 @@ use definitions::Position;
 use definitions::Refusal;
 use definitions::Selection;
 use generator::pair::Verdict;
+use page_rows::serve;
 use search::frame;
 
-pub mod serve; // the rows of a lawful list at a position that is not refused
+pub mod position; // whether a position can be read from
 
 // The request for a page of a list.
 pub fn request(list: Selection, position: Position) -> PageRequest
@@ -39,7 +40,7 @@ pub fn page(request: PageRequest, out: &mut [u32]) -> PageAnswer
     if !limits::is_lawful_top(list.top) {
         return PageAnswer::NoPage(Refusal::WrongDimension);
     }
-    match serve::check_position(list.degree, position) {
+    match position::check_position(list.degree, position) {
         Verdict::Refused(refusal) => PageAnswer::NoPage(refusal),
         Verdict::Passed => {
             if out.len() < frame::width_of(list) {

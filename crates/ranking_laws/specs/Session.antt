@@ -1,42 +1,35 @@
--- DEMAND 3, the session: the pages of a selected list are those of its rule, so whoever asks for page after page reads the ranked list. An
--- answer that is a page says that no situation applied; at a listed position, with a slice that holds a row, none applies. Assumes nothing.
+-- The pages of a selected list are those of its rule: at a position that a walk has come to, with a slice that holds a row, no situation applies;
+-- the rows that are read out of the slice are the rule's page; and so the walk goes on, or has the ranked list. Assumes nothing.
 use mathlib.Core.Path.{_≡_, refl, sym, ap, _∙_}
-use mathlib.Core.Bool.{Bool, true}
-use mathlib.Core.List.{List}
-use Prim.Native.Nat.{ℕ, _+_, _≤_}
+use mathlib.Core.Bool.{true, false, not}
+use mathlib.Core.List.{List, [], _∷_, _++_}
+use Prim.Native.Nat.{ℕ, _≤_}
+use native.Mathlib.Nat.{le-div-iff-mul-le}
+use native.Mathlib.Omega.{arith}
 use lib.ListN.{length}
 use borrow.Author.Tests.{le-ltb}
-use Rattle.definitions.specs.Number.{join, over}
-use Rattle.definitions.specs.Answers.{unless}
+use Rattle.definitions.specs.Number.{join}
 use Rattle.definitions.specs.Generator.{lawfulDegree}
-use Rattle.definitions.specs.Pages.{Cut, page, more}
-use Rattle.definitions.specs.Ranking.{lawfulTop, rowWidth, rowKey, ranked, cutOf}
+use Rattle.definitions.specs.Ranking.{lawfulTop, rowWidth, ranked, cutOf}
 use Rattle.definitions.specs.Calls.{pageRequest, paging, positionSituations, pairSituations, capacity, pageRows, furtherRow, pageAnswer, pageSlice}
 use Rattle.definitions.specs.declared.Selection.{Selection}
 use Rattle.definitions.specs.declared.Position.{Position}
 use Rattle.definitions.specs.declared.Position.the-variants.{Start, After}
 use Rattle.definitions.specs.declared.PageRequest.{PageRequest}
-use Rattle.definitions.specs.declared.PageAnswer.the-variants.{Page}
+use Rattle.definitions.specs.declared.PageAnswer.the-variants.{Page, NoPage}
+use Rattle.answer_laws.specs.Unless.{NoneApplies, passes, at-end, none-append, unless-given}
 use Rattle.answer_laws.specs.Lent.{page-given}
 use Rattle.number_laws.specs.Bounds.{lawfulTop-is}
 use Rattle.order_laws.specs.Accepted.{accepted-is}
-use Rattle.ranking_laws.specs.Rule.{rankedBy}
+use Rattle.page_laws.specs.Rows.{rowsOf, rows-back}
 use Rattle.ranking_laws.specs.Met.{ruleOf, width-is}
 use Rattle.ranking_laws.specs.Ranked.{ranked-is}
-use Rattle.ranking_laws.specs.Reading.{cutBy, ListedPosition, at-start, after-listed, pageBy, moreBy}
-use Rattle.ranking_laws.specs.Reading.{Pager, SessionWith, Given, Serves, reading-ends, reading-whole}
+use Rattle.ranking_laws.specs.Reading.{cutBy, ListedPosition, at-start, after-listed, afterLast, pageBy, moreBy, page-wide}
+use Rattle.ranking_laws.specs.Reading.{Reached, reached-page, reached-last}
 
--- The pages of a selected list.
-abbrev pub pagerOf : Selection → Pager
-pagerOf l = record {
-  width = rowWidth l;
-  answer = λ (at : Position) (s : List ℕ). pageAnswer (pageRequest l at) s;
-  slice = λ (at : Position) (s : List ℕ). pageSlice (pageRequest l at) s;
-}
-
--- Page after page of a selected list, from a position with the slice `lent i`; ps are the rows that were read out of each slice.
-abbrev pub Session : Selection → (ℕ → List ℕ) → Position → ℕ → List (List (List ℕ)) → Type 0
-Session l lent at i ps = SessionWith (pagerOf l) lent at i ps
+-- The rows that are read out of the slice after a page was given.
+abbrev pub receivedRows : Selection → Position → List ℕ → List (List ℕ)
+receivedRows l at s = rowsOf (rowWidth l) (length (pageRows (pageRequest l at) s)) (pageSlice (pageRequest l at) s)
 
 pub cut-is : (l : Selection) (at : Position) → cutOf l at ≡ cutBy (ruleOf l) at
 unfolding cutOf cutBy
@@ -55,36 +48,43 @@ module _ (l : Selection) (at : Position) (s : List ℕ) where
   unfolding furtherRow
   further-is = rw (cut-is l at, ranked-is l)
 
-  given : (n : ℕ) (b : Bool) → pageAnswer request s ≡ Page n b → Given (ruleOf l) (pagerOf l) at s n b
-  given n b e =
-      let told = page-given request s e in
-      record {
-        count = sym (told .1) ∙ ap length rows-are;
-        further = sym further-is ∙ told .2;
-        written = told .3 ∙ ap (λ (rows : List (List ℕ)). over 0 (join rows) s) rows-are;
-      }
-
 module _ (l : Selection) (lawful-degree : lawfulDegree (l .degree) ≡ true) (lawful-top : lawfulTop (l .top) ≡ true) where
+  position-passes : {at : Position} → ListedPosition (ruleOf l) at → NoneApplies (positionSituations (l .degree) at)
+  unfolding positionSituations pairSituations
+  position-passes at-start = at-end
+  position-passes (after-listed {p = p} {q = q} w t) =
+      let a = accepted-is (l .degree) p q .0 t in
+      passes (ap not w) (passes (ap not (a .primitive-p)) (passes (ap not (a .linear)) (passes (ap not (a .coprime)) at-end)))
+
   not-refused : {at : Position} → ListedPosition (ruleOf l) at → (s : List ℕ) → rowWidth l ≤ length s
       → pageAnswer (pageRequest l at) s ≡ Page (length (pageRows (pageRequest l at) s)) (furtherRow (pageRequest l at) s)
-  unfolding pageAnswer paging positionSituations pairSituations unless
-  not-refused at-start s room = rw (lawful-degree, lawful-top, le-ltb (length s) (rowWidth l) room)
-  not-refused (after-listed {p = p} {q = q} w t) s room =
-      let a = accepted-is (l .degree) p q .0 t in
-      rw (lawful-degree, lawful-top, w, a .primitive-p, a .linear, a .coprime, le-ltb (length s) (rowWidth l) room)
+  unfolding pageAnswer paging
+  not-refused h s room =
+      unless-given NoPage _
+      (passes (ap not lawful-degree) (passes (ap not lawful-top) (none-append (position-passes h) (passes (le-ltb (length s) (rowWidth l) room) at-end))))
 
-  selection-served : Serves (ruleOf l) (pagerOf l)
-  selection-served = record {
-    wide = width-is l (lawfulTop-is (l .top) .0 lawful-top .low);
-    given = λ at s n b e. given l at s n b e;
-    answered = λ {at} h s room. rw (← rows-are l at s, ← further-is l at s) (not-refused h s room);
-  }
+  -- ---- a walk through the list that has come to a position, and a slice that holds a row
 
-  module _ (lent : ℕ → List ℕ) (room : (i : ℕ) → rowWidth l ≤ length (lent i)) where
-    -- There is a session from the start, so it ends.
-    pub session-ends : (ps : List (List (List ℕ))) × Session l lent Start 0 ps
-    session-ends = reading-ends (ruleOf l) (pagerOf l) selection-served lent room
+  module _ {at : Position} {ps : List (List (List ℕ))} (r : Reached (ruleOf l) at ps) (s : List ℕ) (room : rowWidth l ≤ length s) where
+    abbrev asked : PageRequest
+    asked = pageRequest l at
 
-    -- The rows read in each session from the start, joined, are the ranked list, and it asks for at most one page more than there are rows.
-    pub session-whole : {ps : List (List (List ℕ))} → Session l lent Start 0 ps → (length ps ≤ length (ranked l) + 1) × (join ps ≡ ranked l)
-    session-whole w = rw ranked-is (reading-whole (ruleOf l) (pagerOf l) selection-served lent room w)
+    -- The page is given, and
+    pub page-reached : pageAnswer (pageRequest l at) s ≡ Page (length (pageRows (pageRequest l at) s)) (furtherRow (pageRequest l at) s)
+    page-reached = not-refused (r .listed) s room
+
+    received : receivedRows l at s ≡ pageBy (ruleOf l) at (capacity asked s)
+    received =
+        let wide = rw (width-is l (lawfulTop-is (l .top) .0 lawful-top .low)) at (page-wide (ruleOf l) at (capacity asked s)) in
+        rw (page-given asked s page-reached .3) (rows-back (rowWidth l) (pageRows asked s) s (rw (rows-are l at s) wide) ∙ rows-are l at s)
+
+    full : 1 ≤ capacity asked s
+    full = le-div-iff-mul-le {k = rowWidth l} {x = 1} {y = length s} (omega arith) .1 (omega (arith, room))
+
+    -- the walk goes on,
+    pub page-goes-on : furtherRow (pageRequest l at) s ≡ true → Reached (ruleOf l) (afterLast (receivedRows l at s)) (ps ++ receivedRows l at s ∷ [])
+    page-goes-on t = rw received (reached-page (ruleOf l) r (capacity asked s) full (sym (further-is l at s) ∙ t))
+
+    -- or it has the ranked list.
+    pub page-ends : furtherRow (pageRequest l at) s ≡ false → join (ps ++ receivedRows l at s ∷ []) ≡ ranked l
+    page-ends f = rw (received, ranked-is) (reached-last (ruleOf l) r (capacity asked s) (sym (further-is l at s) ∙ f))

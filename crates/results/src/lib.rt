@@ -8,8 +8,6 @@ ghost use Rattle.definitions.specs.Number.{bit};
 ghost use Rattle.definitions.specs.Answers.{judgementValues, uniformityValues, pageValues, pointsValues};
 ghost use Rattle.results.specs.Results.{judgementResult, tValueResult, pageResult, pointsResult};
 
-pub mod catalogues; // answers about catalogues
-
 // A pair's step.
 #[repr(C)]
 pub struct FenyurkaJudgement {

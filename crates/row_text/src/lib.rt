@@ -2,7 +2,7 @@
 // the answer is the place itself.
 ghost use mathlib.Core.Path.{_≡_};
 ghost use Rattle.definitions.specs.Listing.{rowText};
-ghost use Rattle.text.specs.Place.{placed, behind};
+ghost use Rattle.slice_laws.specs.Place.{placed, behind};
 
 mod write;
 

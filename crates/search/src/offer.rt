@@ -18,11 +18,11 @@ use crate::frame::Tally;
 use crate::frame::width_of;
 use crate::rank;
 use crate::rank::Standing;
-use generator::primitive::has_full_order;
-use generator::primitive::is_primitive;
-use generator::step::find_step;
 use insertion::rows;
 use limits::LONGEST_ROW;
+use orders::primitive::has_full_order;
+use orders::primitive::is_primitive;
+use orders::step::find_step;
 
 // Whether a row stands above the cut.
 fn is_above(row: &[u32], f: Frame, last: &[u32]) -> bool

@@ -8,7 +8,7 @@ ghost use Rattle.search.specs.Walk.{Ready};
 use crate::frame::Frame;
 use crate::frame::Tally;
 use crate::offer;
-use polynomial::fractions;
+use fractions::tree;
 
 // Offers the rows of the accepted pairs that stand `left` levels below (p, q).
 pub fn visit(left: u32, p: u32, q: u32, out: &mut [u32], t: Tally, f: Frame, last: &[u32]) -> Tally
@@ -19,8 +19,8 @@ pub fn visit(left: u32, p: u32, q: u32, out: &mut [u32], t: Tally, f: Frame, las
     if left == 0 {
         return offer::offer_pair(p, q, out, t, f, last);
     }
-    let by_x = fractions::child(2, p, q);
+    let by_x = tree::child(2, p, q);
     let half = visit(left - 1, by_x, p, out, t, f, last);
-    let by_x_plus_one = fractions::child(3, p, q);
+    let by_x_plus_one = tree::child(3, p, q);
     visit(left - 1, by_x_plus_one, p, out, half, f, last)
 }

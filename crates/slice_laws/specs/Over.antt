@@ -9,7 +9,7 @@ use native.Mathlib.Numerals.{add-one}
 use native.Mathlib.Omega.{arith}
 use lib.Dec.{leb}
 use lib.ListN.{length, take, drop, set, getD, length-append, length-take, length-drop, take-append-drop, drop-of-length-le, List·getD-append}
-use lib.Seq.{drop-at, take-at, take-all, take-take, take-append-le, getD-take, length-take-le}
+use lib.Seq.{drop-at, take-at, take-all, take-take, take-append-le, drop-append-le, getD-take, length-take-le}
 use lib.Seq.{drop-drop, drop-cons, take-set-le, take-set-lt, drop-set-lt, set-split, set-append-left, getD-set-same, append-snoc, lt-length-set}
 use borrow.Author.Tests.{leb-true, leb-false}
 use Rattle.definitions.specs.Number.{over}
@@ -31,6 +31,10 @@ over-front v s = rw zero-add
 -- The first part stands in front of what is written behind it.
 pub over-front-append : (a b s : List ℕ) → over 0 (a ++ b) s ≡ a ++ over 0 b (drop (length a) s)
 over-front-append a b s = rw (over-front (a ++ b) s, over-front b (drop (length a) s), length-append, drop-drop) (append-assoc a b _)
+
+-- What stands behind the part that is written over.
+pub over-part : (v a b : List ℕ) → length v ≤ length a → over 0 v (a ++ b) ≡ over 0 v a ++ b
+over-part v a b h = rw (over-front v (a ++ b), over-front v a, drop-append-le (length v) a b h) (sym (append-assoc v (drop (length v) a) b))
 
 -- What stands at the front already.
 pub over-same : (k : ℕ) (s : List ℕ) → over 0 (take k s) s ≡ s

@@ -6,26 +6,33 @@ mod output; // words of the full period
 mod pages; // pages of a short list
 mod print; // what is printed with
 
-use print::line_end;
-use print::named;
+use print::number;
+use print::text;
 
 fn judged(m: u32, p: u32, q: u32) {
-    print::pair(b"judge", m, p, q);
+    print::pair(b"judge ", m, p, q);
     match generator::judge(m, p, q) {
-        Judgement::Accepted(step) => named(b" step ", step),
+        Judgement::Accepted(step) => {
+            text(b" step ");
+            number(step);
+        }
         Judgement::Rejected(refusal) => print::refused(refusal),
     }
-    line_end();
+    text(b"\n");
 }
 
 fn measured(m: u32, p: u32, q: u32, s: u32) {
-    print::pair(b"t-value", m, p, q);
-    named(b" dimension ", s);
+    print::pair(b"t-value ", m, p, q);
+    text(b" dimension ");
+    number(s);
     match net::t_value(m, p, q, s) {
-        Uniformity::Value(t) => named(b" is ", t),
+        Uniformity::Value(t) => {
+            text(b" is ");
+            number(t);
+        }
         Uniformity::Undefined(refusal) => print::refused(refusal),
     }
-    line_end();
+    text(b"\n");
 }
 
 fn judgings() {

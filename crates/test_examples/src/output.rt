@@ -1,40 +1,25 @@
-// The output of (11, 4), and the full period of Table 1's pair for m = 16, in one call and in two.
-use crate::print::counted;
-use crate::print::line_end;
-use crate::print::named;
-use crate::print::pair;
-use crate::print::refused;
+// The output of (11, 4), and the full period of Table 1's pair for m = 16 in pieces.
+use crate::print::count;
+use crate::print::number;
 use crate::print::text;
 use definitions::PointsAnswer;
 ghost use Prim.Native.Nat.{_<_, _^_};
 
-// The call that is made, and what it answers.
-fn asked(m: u32, p: u32, q: u32, first: u32) {
-    pair(b"points", m, p, q);
-    named(b" from ", first);
-}
-
-fn answer(a: PointsAnswer) {
+// How many words were written.
+fn answer(a: PointsAnswer) -> usize {
     match a {
-        PointsAnswer::Written(n) => counted(b" count ", n),
-        PointsAnswer::NotWritten(refusal) => refused(refusal),
-    }
-    line_end();
-}
-
-// Whether two slices hold the same words.
-fn equal(a: &[u32], b: &[u32]) -> bool {
-    if a.len() != b.len() {
-        return false;
-    }
-    let mut i = 0;
-    while i < a.len() {
-        if a[i] != b[i] {
-            return false;
+        PointsAnswer::Written(n) => {
+            text(b" count ");
+            count(n);
+            text(b"\n");
+            n
         }
-        i += 1;
+        PointsAnswer::NotWritten(refusal) => {
+            crate::print::refused(refusal);
+            text(b"\n");
+            0
+        }
     }
-    true
 }
 
 fn wide(word: u32) -> u64
@@ -43,13 +28,17 @@ fn wide(word: u32) -> u64
     word as u64
 }
 
-// A sum modulo 2^32 that tells the words' order too: what there is is taken 31 times and the next word is added.
-fn hash(words: &[u32]) -> u64
+// A sum modulo 2^32 that tells the words' order too: what there is is taken 31 times and the next word is added. The first n words are added.
+fn hash(before: u64, words: &[u32], n: usize) -> u64
+    requires { ⌜ before < 2 ^ 32 ⌝ }
     ensures { λ r. ⌜ r < 2 ^ 32 ⌝ }
 {
-    let mut sum: u64 = 0;
+    let mut sum = before;
     let mut i = 0;
-    while i < words.len() {
+    while i < n {
+        if i >= words.len() {
+            return sum;
+        }
         sum = (sum * 31 + wide(words[i])) % 4294967296;
         i += 1;
     }
@@ -60,7 +49,7 @@ fn lines(words: &[u32]) {
     let mut i = 0;
     while i < words.len() {
         io::print_hex(1, wide(words[i]), 8);
-        line_end();
+        text(b"\n");
         i += 1;
     }
 }
@@ -68,77 +57,66 @@ fn lines(words: &[u32]) {
 // The eighth number of the slice stays.
 fn seven_words() {
     let mut out = [9u32; 8];
-    asked(3, 11, 4, 0);
+    text(b"points 3 11 4 from 0");
     answer(points::points(3, 11, 4, 0, &mut out));
     lines(&out);
 }
 
-// Words of Table 1's pair for m = 16.
-fn long(first: u32, out: &mut [u32]) {
-    asked(16, 103403, 60601, first);
-    answer(points::points(16, 103403, 60601, first, out));
-}
+// The words of the full period come in pieces; the last is a word shorter than the others.
+const PIECE: usize = 4096;
 
-fn first_part(parts: &mut [u32]) {
-    if parts.len() < 10001 {
-        return;
-    }
-    long(0, &mut parts[0..10001]);
-}
+const PIECES: u32 = 16;
 
-fn second_part(parts: &mut [u32]) {
-    if parts.len() < 10001 {
-        return;
-    }
-    long(10001, &mut parts[10001..]);
-}
-
-fn compared(whole: &[u32; 65535], parts: &[u32; 65535]) {
-    text(b"hash ");
-    io::print_decimal(1, hash(whole));
-    if equal(whole, parts) {
-        text(b", and two calls are one\n");
-    } else {
-        text(b", and two calls differ from one\n");
-    }
-}
-
-fn period_parts() -> [u32; 65535] {
-    let mut parts = [0u32; 65535];
-    first_part(&mut parts);
-    parts
+// The words from an index on, added to the sum.
+fn piece(first: u32, sum: u64) -> u64
+    requires { ⌜ sum < 2 ^ 32 ⌝ }
+    ensures { λ r. ⌜ r < 2 ^ 32 ⌝ }
+{
+    let mut words = [0u32; PIECE];
+    text(b"points 16 103403 60601 from ");
+    number(first);
+    let n = answer(points::points(16, 103403, 60601, first, &mut words));
+    hash(sum, &words, n)
 }
 
 fn full_period() {
-    let mut whole = [0u32; 65535];
-    long(0, &mut whole);
-    let mut parts = period_parts();
-    second_part(&mut parts);
-    compared(&whole, &parts);
+    let mut sum: u64 = 0;
+    let mut i: u32 = 0;
+    while i < PIECES {
+        sum = piece(i * PIECE as u32, sum);
+        i += 1;
+    }
+    text(b"hash ");
+    io::print_decimal(1, sum);
+    text(b"\n");
 }
 
-fn short(q: u32, first: u32, out: &mut [u32]) {
-    asked(3, 11, q, first);
-    counted(b" room ", out.len());
+fn asked(q: u32, first: u32, out: &mut [u32]) {
+    text(b"points 3 11 ");
+    number(q);
+    text(b" from ");
+    number(first);
+    text(b" room ");
+    count(out.len());
     answer(points::points(3, 11, q, first, out));
 }
 
 fn edges() {
     let mut room = [9u32; 2];
-    short(4, 6, &mut room);
-    short(4, 7, &mut room);
-    short(4, 4294967295, &mut room);
-    short(2, 7, &mut room);
+    asked(4, 6, &mut room);
+    asked(4, 7, &mut room);
+    asked(4, 4294967295, &mut room);
+    asked(2, 7, &mut room);
 }
 
 fn no_room() {
     let mut room = [9u32; 2];
-    short(4, 0, &mut room[..0]);
+    asked(4, 0, &mut room[..0]);
 }
 
 fn no_room_beyond() {
     let mut room = [9u32; 2];
-    short(4, 7, &mut room[..0]);
+    asked(4, 7, &mut room[..0]);
 }
 
 pub(crate) fn all() {

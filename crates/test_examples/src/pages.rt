@@ -1,8 +1,6 @@
 // Pages of degree 3 up to dimension 4: too short a slice, and one row after the other in a slice that keeps its tail.
-use crate::print::counted;
-use crate::print::further;
-use crate::print::line_end;
-use crate::print::refused;
+use crate::print::count;
+use crate::print::number;
 use crate::print::text;
 use definitions::PageAnswer;
 use definitions::Position;
@@ -11,19 +9,11 @@ use definitions::Selection;
 fn numbers(slice: &[u32]) {
     let mut i = 0;
     while i < slice.len() {
-        further(slice[i]);
+        text(b" ");
+        number(slice[i]);
         i += 1;
     }
-    line_end();
-}
-
-fn given(rows: usize, more: bool) {
-    counted(b" rows ", rows);
-    if more {
-        text(b" more");
-    } else {
-        text(b" end");
-    }
+    text(b"\n");
 }
 
 // The answer, and what the slice holds afterwards.
@@ -31,10 +21,20 @@ fn asked(position: Position, slice: &mut [u32]) {
     let list = Selection { degree: 3, top: 4 };
     let request = ranking::request(list, position);
     match ranking::page(request, slice) {
-        PageAnswer::Page(rows, more) => given(rows, more),
-        PageAnswer::NoPage(refusal) => refused(refusal),
+        PageAnswer::Page(rows, further) => {
+            text(b" rows ");
+            count(rows);
+            if further {
+                text(b" more:");
+            } else {
+                text(b" end:");
+            }
+        }
+        PageAnswer::NoPage(refusal) => {
+            crate::print::refused(refusal);
+            text(b":");
+        }
     }
-    text(b":");
     numbers(slice);
 }
 
@@ -45,9 +45,10 @@ fn first(slice: &mut [u32]) {
 
 fn after(p: u32, q: u32) {
     let mut slice = [9u32; 7];
-    text(b"page 3 4 after");
-    further(p);
-    further(q);
+    text(b"page 3 4 after ");
+    number(p);
+    text(b" ");
+    number(q);
     asked(Position::After(p, q), &mut slice);
 }
 

@@ -1,4 +1,3 @@
--- Text put at a place: what the contracts cite, and the laws that their proofs rest on.
-pub mod Place
+-- Decimal digits and lines: what the contracts cite, and the laws that their proofs rest on.
 pub mod Decimal
 pub mod Lines

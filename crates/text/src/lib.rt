@@ -2,7 +2,7 @@
 // the place itself.
 ghost use mathlib.Core.Path.{_≡_};
 ghost use Rattle.definitions.specs.Listing.{decimal};
-ghost use Rattle.text.specs.Place.{placed, behind};
+ghost use Rattle.slice_laws.specs.Place.{placed, behind};
 
 pub mod lines; // lines of words and numbers
 pub mod write; // texts over what stands in a buffer

@@ -3,7 +3,7 @@ ghost use mathlib.Core.Path.{_≡_};
 ghost use Prim.Native.Nat.{_+_, _≤_};
 ghost use lib.ListN.{length};
 ghost use Rattle.text.specs.Lines.{mostLetters, shortLine, longLine};
-ghost use Rattle.text.specs.Place.{placed, behind};
+ghost use Rattle.slice_laws.specs.Place.{placed, behind};
 use crate::write::digits;
 use crate::write::fits;
 use crate::write::write_field;

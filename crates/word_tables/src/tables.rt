@@ -9,7 +9,7 @@ ghost use Rattle.word_tables.specs.Spreading.{Spread};
 ghost use Rattle.word_tables.specs.Tables.{size};
 ghost use Rattle.word_tables.specs.Filling.{Unit, Filled};
 use crate::word;
-use generator::degrees;
+use polynomial::digits;
 use polynomial::residues;
 
 // Half of the digits that a state has at most, and one entry for each of their values.
@@ -42,7 +42,7 @@ pub fn fill(m: u32, p: u32, q: u32, unit: u32, next: &mut [u32], word: &mut [u32
     requires { ⌜ (length (now next) ≡ size) × (length (now word) ≡ size) ⌝ }
     ensures { λ r. ⌜ Filled m p q unit size (now (next .exit)) (now (word .exit)) ⌝ }
 {
-    let lead = degrees::leading_term(m);
+    let lead = digits::leading_term(m);
     next[0] = 0;
     word[0] = 0;
     let mut n: usize = 1;

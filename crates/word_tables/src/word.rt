@@ -5,7 +5,7 @@ ghost use Rattle.definitions.specs.Points.{state, leading, wordDigits};
 ghost use Rattle.number_laws.specs.Bounds.{LawfulDegree};
 ghost use Rattle.polynomial_laws.specs.Degree.{HasDegree};
 ghost use Rattle.fraction_laws.specs.WellFormed.{WellFormed};
-use generator::degrees;
+use polynomial::digits;
 use polynomial::residues;
 
 // The state of word i: q to that power.
@@ -14,7 +14,7 @@ pub fn state_at(m: u32, p: u32, q: u32, i: u32) -> u32
     requires { ⌜ WellFormed m p q ⌝ }
     ensures { λ y. ⌜ (y ≡ state p q i) × (y < 2 ^ m) ⌝ }
 {
-    residues::pow_mod(q, i, p, degrees::leading_term(m))
+    residues::pow_mod(q, i, p, digits::leading_term(m))
 }
 
 const WORD_DIGITS: u32 = 32;
@@ -26,7 +26,7 @@ pub fn word_of(m: u32, p: u32, y: u32) -> u32
     requires { ⌜ y < 2 ^ m ⌝ }
     ensures { λ r. ⌜ r ≡ leading p wordDigits y ⌝ }
 {
-    let lead = degrees::leading_term(m);
+    let lead = digits::leading_term(m);
     let mut word: u32 = 0;
     let mut rest = y;
     let mut d: u32 = 0;

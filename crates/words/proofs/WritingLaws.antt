@@ -1,8 +1,8 @@
 -- Words written over the front of a slice, one behind the other. Assumes nothing.
 use mathlib.Core.Path.{_≡_, refl, sym, ap, _∙_}
 use mathlib.Core.List.{List, [], _∷_, _++_}
-use Prim.Native.Nat.{ℕ, zero, suc, _+_, _≤_, _<_}
-use native.Mathlib.Nat.{add-zero, zero-add, add-suc, suc-add}
+use Prim.Native.Nat.{ℕ, suc, _+_, _≤_, _<_}
+use native.Mathlib.Nat.{add-zero, zero-add}
 use native.Mathlib.Numerals.{add-one}
 use native.Mathlib.Omega.{arith}
 use lib.ListN.{length, set, length-set}
@@ -11,6 +11,7 @@ use Rattle.definitions.specs.Polynomial.{prod, rem}
 use Rattle.definitions.specs.Points.{leading, state, wordDigits, word, words}
 use Rattle.slice_laws.specs.Over.{over-nothing, over-behind}
 use Rattle.order_laws.specs.State.{state-suc}
+use Rattle.order_laws.specs.Words.{length-words, words-append}
 
 word-def : (p q i : ℕ) → word p q i ≡ leading p wordDigits (state p q i)
 unfolding word
@@ -20,23 +21,15 @@ words-none : (p q i : ℕ) → words p q i 0 ≡ []
 unfolding words
 words-none p q i = refl
 
-words-length : (p q i n : ℕ) → length (words p q i n) ≡ n
-unfolding words
-words-length p q i zero = refl
-words-length p q i (suc n) = ap suc (words-length p q (suc i) n)
-
 -- One more word, behind the others.
 words-more : (p q i n : ℕ) → words p q i (suc n) ≡ words p q i n ++ word p q (i + n) ∷ []
 unfolding words
-words-more p q i zero = rw add-zero
-words-more p q i (suc n) =
-    let next : suc i + n ≡ i + suc n = suc-add i n ∙ sym (add-suc i n) in
-    ap (λ (l : List ℕ). word p q i ∷ l) (words-more p q (suc i) n ∙ rw next)
+words-more p q i n = ap (words p q i) (sym (add-one n)) ∙ words-append p q i n 1
 
 written-more : (p q first i : ℕ) (s : List ℕ) → i < length s
     → set (over 0 (words p q first i) s) i (word p q (first + i)) ≡ over 0 (words p q first (i + 1)) s
 written-more p q first i s h =
-    let e : 0 + length (words p q first i) ≡ i = zero-add _ ∙ words-length p q first i in
+    let e : 0 + length (words p q first i) ≡ i = zero-add _ ∙ length-words p q first i in
     rw (add-one, words-more) (rw e at (over-behind 0 (words p q first i) (word p q (first + i)) s (rw e h)))
 
 -- Where the writer is: i words are written, behind them all is as it was, and y is the next state.

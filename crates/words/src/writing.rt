@@ -6,7 +6,7 @@ ghost use Rattle.definitions.specs.Number.{over};
 ghost use Rattle.definitions.specs.Points.{words};
 ghost use Rattle.number_laws.specs.Bounds.{LawfulDegree};
 ghost use Rattle.fraction_laws.specs.WellFormed.{WellFormed};
-use generator::degrees;
+use polynomial::digits;
 use polynomial::residues;
 use word_tables::tables;
 use word_tables::word;
@@ -42,7 +42,7 @@ fn write_few(m: u32, p: u32, q: u32, first: u32, count: usize, out: &mut [u32])
     requires { ⌜ count ≤ length (now out) ⌝ }
     ensures { λ r. ⌜ now (out .exit) ≡ over 0 (words p q first count) (now (out .entry)) ⌝ }
 {
-    let lead = degrees::leading_term(m);
+    let lead = digits::leading_term(m);
     let mut y = word::state_at(m, p, q, first);
     let mut i: usize = 0;
     while i < count {

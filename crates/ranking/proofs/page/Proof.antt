@@ -9,7 +9,7 @@ use Rattle.definitions.specs.Ranking.{lawfulTop}
 use Rattle.number_laws.specs.Bounds.{lawfulDegree-is, lawfulTop-is}
 use Rattle.generator.specs.declared.pair.Verdict.the-variants.{Passed}
 use Rattle.search.specs.Frame.{LawfulList}
-use Rattle.ranking.specs.Serve.{positionVerdict}
+use Rattle.ranking.specs.Positions.{positionVerdict}
 use Rattle.ranking.proofs.PageLaws as laws
 use Rattle.ranking.proofs.PositionLaws.{position-decides, position-passes, position-listed}
 use borrow.Author.Needs.{needs}

@@ -8,7 +8,7 @@ use lib.ListN.{length}
 use borrow.Author.Needs.{needs}
 use borrow.Author.Tests.{leb-true, leb-false}
 use Rattle.definitions.specs.Listing.{rowText}
-use Rattle.text.specs.Place.{put, not-put}
+use Rattle.slice_laws.specs.Place.{put, not-put}
 use Rattle.row_text.proofs.put_row.Statement.{statement}
 use Rattle.row_text.proofs.put_row.Tie as tie
 

@@ -2,7 +2,7 @@
 use denote.Ref.{now}
 use borrow.Author.Needs.{needs}
 use Rattle.definitions.specs.Listing.{decimal}
-use Rattle.text.specs.Place.{fits-room, fits-put, fits-not}
+use Rattle.slice_laws.specs.Place.{fits-room, fits-put, fits-not}
 use Rattle.text.proofs.put_decimal.Statement.{statement}
 use Rattle.text.proofs.put_decimal.Tie as tie
 

@@ -12,7 +12,7 @@ use borrow.Fn.PlainCycle.{Measures, is, falls, and}
 use Rattle.search.proofs.walk.visit.Reads as visit
 use Rattle.search.proofs.walk.visit.Kinds as kinds
 use Rattle.search.proofs.walk.+visit.Lts-visit as visit-lts
-use Rattle.polynomial.proofs.fractions.child.Reads as child-reads
+use Rattle.fractions.proofs.tree.child.Reads as child-reads
 use Rattle.search.proofs.offer.offer_pair.Reads as offer-pair-reads
 use Rattle.search.proofs.walk.+visit.{statement}
 use Rattle.search.proofs.walk.+visit.Tie.{close}

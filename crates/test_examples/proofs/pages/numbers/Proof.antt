@@ -6,12 +6,12 @@ use Rattle.test_examples.proofs.pages.numbers.Statement.{statement}
 use Rattle.test_examples.proofs.pages.numbers.Tie as tie
 
 abbrev Inv-loop : tie.InvT-loop
-Inv-loop slice i₀ i = Unit {0}
+Inv-loop slice i₀ t3 t4 i = Unit {0}
 
 abbrev μ-loop : tie.MeasureT-loop
-μ-loop slice i₀ i = length slice - i
+μ-loop slice i₀ t3 t4 i = length slice - i
 
 pub numbers-spec : {M : Type 1} → statement M
 numbers-spec =
     tie.close (tie.spec Inv-loop μ-loop (search needs) (search needs) (search needs) (search needs) (search needs)
-    (search needs) (search needs) (search needs) (search needs))
+    (search needs) (search needs) (search needs) (search needs) (search needs) (search needs) (search needs))

@@ -8,7 +8,7 @@ use lib.ListN.{length}
 use borrow.Author.Needs.{needs}
 use Rattle.text.specs.Decimal.{decimal-short}
 use Rattle.text.specs.Lines.{longLine, long-counted}
-use Rattle.text.specs.Place.{fits-room, fits-put, fits-not}
+use Rattle.slice_laws.specs.Place.{fits-room, fits-put, fits-not}
 use Rattle.text.proofs.lines.put_long_line.Statement.{statement}
 use Rattle.text.proofs.lines.put_long_line.Tie as tie
 

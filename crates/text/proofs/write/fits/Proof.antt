@@ -5,7 +5,7 @@ use native.Mathlib.Omega.{arith}
 use borrow.Author.Needs.{needs}
 use borrow.Author.Tests.{lt-leb}
 use lib.ListN.{length}
-use Rattle.text.specs.Place.{room-test}
+use Rattle.slice_laws.specs.Place.{room-test}
 use Rattle.text.proofs.write.fits.Statement.{statement}
 use Rattle.text.proofs.write.fits.Tie as tie
 

@@ -1,0 +1,2 @@
+-- What an answer is as a struct for C. Assumes nothing.
+pub mod Results

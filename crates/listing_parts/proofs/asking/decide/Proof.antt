@@ -1,0 +1,66 @@
+-- `listing_parts::asking::decide` decides as the definition does. Assumes nothing.
+use mathlib.Core.Path.{_≡_, sym, _∙_}
+use mathlib.Core.Bool.{true}
+use native.Mathlib.Omega.{arith}
+use borrow.Author.Needs.{needs}
+use borrow.Author.Tests.{not-true, not-false}
+use Rattle.definitions.specs.Generator.{lawfulDegree}
+use Rattle.definitions.specs.Ranking.{lawfulTop}
+use Rattle.listing_parts.specs.Decision.{size-refused, degree-refused, top-refused, none-refused, all-listed}
+use Rattle.listing_parts.proofs.asking.decide.Statement.{statement}
+use Rattle.listing_parts.proofs.asking.decide.Tie as tie
+
+returns : tie.Need-returns
+returns c = let a = c .before .args in sym (size-refused (a .degree) (a .top) (a .size) (c .if1 .taken))
+
+-- ---- with a lawful page size
+abbrev asked : tie.Else1 → tie.Start
+asked c = c .before
+
+returns-2 : tie.Need-returns-2
+returns-2 c =
+    let tested = c .before .before in
+    let a = asked (tested .before) .args in
+    c .refuse .ensures
+    ∙ sym (degree-refused (a .degree) (a .top) (a .size) (tested .before .if1 .left)
+    (sym (tested .is-lawful-degree .ensures) ∙ not-true _ (c .before .if2 .taken)))
+
+-- ---- with a lawful degree
+abbrev sized : tie.Else2 → tie.Else1
+sized c = c .before .before
+
+degree : (c : tie.Else2) → lawfulDegree (asked (sized c) .args .degree) ≡ true
+degree c = sym (c .before .is-lawful-degree .ensures) ∙ not-false _ (c .if2 .left)
+
+returns-3 : tie.Need-returns-3
+returns-3 c =
+    let tested = c .before .before in
+    let lawful = tested .before in
+    let a = asked (sized lawful) .args in
+    c .refuse2 .ensures
+    ∙ sym (top-refused (a .degree) (a .top) (a .size) (sized lawful .if1 .left) (degree lawful)
+    (sym (tested .is-lawful-top .ensures) ∙ not-true _ (c .before .if3 .taken)))
+
+-- ---- with a lawful top dimension
+abbrev lawful : tie.Else3 → tie.Else2
+lawful c = c .before .before
+
+top : (c : tie.Else3) → lawfulTop (asked (sized (lawful c)) .args .top) ≡ true
+top c = sym (c .before .is-lawful-top .ensures) ∙ not-false _ (c .if3 .left)
+
+returns-4 : tie.Need-returns-4
+returns-4 c =
+    let here = c .before .before in
+    let a = asked (sized (lawful here)) .args in
+    c .refuse3 .ensures
+    ∙ sym (none-refused (a .degree) (a .top) (a .size) (sized (lawful here) .if1 .left) (degree (lawful here)) (top here) (c .before .if4 .taken))
+
+returns-5 : tie.Need-returns-5
+returns-5 c =
+    let here = c .before in
+    let a = asked (sized (lawful here)) .args in
+    sym (all-listed (a .degree) (a .top) (a .size) (sized (lawful here) .if1 .left) (degree (lawful here)) (top here) (omega (arith, c .if4 .left)))
+
+pub decide-spec : {M : Type 1} → statement M
+decide-spec =
+    tie.close (tie.spec returns (search needs) (search needs) returns-2 (search needs) (search needs) returns-3 (search needs) returns-4 returns-5)

@@ -1,0 +1,113 @@
+-- What is printed upon a line: its text is the listing's. By the tests that the code makes, in the order of the refusals of a page that holds as
+-- many rows as were asked for: each situation of a page from the start applies exactly where its test says so.
+-- Assumes nothing.
+use mathlib.Core.Path.{_≡_, refl}
+use mathlib.Core.Bool.{Bool, true, false}
+use mathlib.Core.List.{List}
+use Prim.Native.Nat.{ℕ, suc, _*_, _≤_, _<_}
+use native.Mathlib.Nat.{mul-le-mul-right, zero-mul}
+use native.Mathlib.Omega.{arith}
+use lib.Dec.{eqb, ltb}
+use lib.ListN.{length, replicate, length-replicate}
+use borrow.Author.Tests.{le-ltb, lt-ltb, ltb-true, ltb-false, eqb-true, eqb-false}
+use Rattle.definitions.specs.Answers.{unless, refusalNumber}
+use Rattle.definitions.specs.Calls.{pageRequest, paging, positionSituations}
+use Rattle.definitions.specs.Generator.{lawfulDegree}
+use Rattle.definitions.specs.Listing.{answerText, largestSize, readLine, listing}
+use Rattle.definitions.specs.Ranking.{lawfulTop, rowWidth}
+use Rattle.definitions.specs.declared.Line.{Line}
+use Rattle.definitions.specs.declared.Line.the-variants.{Asked, Unreadable}
+use Rattle.definitions.specs.declared.Position.the-variants.{Start}
+use Rattle.definitions.specs.declared.Refusal.{Refusal}
+use Rattle.definitions.specs.declared.Refusal.the-variants.{WrongDegree, WrongDimension, ShortSlice}
+use Rattle.definitions.specs.declared.Selection.{Selection}
+use Rattle.number_laws.specs.Truth.{by-test}
+use Rattle.number_laws.specs.Bounds.{lawfulDegree-is, lawfulTop-is}
+use Rattle.answer_laws.specs.Unless.{unless-map}
+use Rattle.listing_parts.specs.Left.{textLeft, Underway}
+use Rattle.listing_parts.specs.declared.Printing.{Printing}
+use Rattle.listing_parts.specs.declared.Printing.the-variants.{Refused, Whole}
+
+-- The list that is asked for.
+abbrev pub listOf : ℕ → ℕ → Selection
+listOf m top = record { degree = m; top = top }
+
+-- What is printed: an unreadable line or a page size above 1000 first, then the refusals of a page that holds `size` rows, then the list.
+unfoldable pub printingOf : Line → Printing
+printingOf Unreadable = Refused 0
+printingOf (Asked m top size) =
+    let l : Selection = listOf m top in
+    elim (ltb largestSize size) [
+      | true ↦ Refused 0
+      | false ↦ unless (paging (pageRequest l Start) (replicate (size * rowWidth l) 0)) (λ (n : Refusal). Refused (refusalNumber n)) (Whole l size)
+    ]
+
+-- ITS TEXT IS THE LISTING'S.
+pub printing-text : (line : Line) → textLeft (printingOf line) ≡ answerText line
+unfolding printingOf answerText
+printing-text Unreadable = refl
+printing-text (Asked m top size) = go (ltb largestSize size) refl
+  where
+    go : (b : Bool) → ltb largestSize size ≡ b → textLeft (printingOf (Asked m top size)) ≡ answerText (Asked m top size)
+    go true e = rw (e, printingOf, answerText)
+    go false e =
+        let l = listOf m top in
+        rw (e, printingOf, answerText)
+        (unless-map textLeft (paging (pageRequest l Start) (replicate (size * rowWidth l) 0)) (λ (n : Refusal). Refused (refusalNumber n)) (Whole l size))
+
+pub start-text : (s : List ℕ) → textLeft (printingOf (readLine s)) ≡ listing s
+unfolding listing
+start-text s = printing-text (readLine s)
+
+-- ---- by the tests
+
+-- A page of `size` rows of some width holds a row exactly where the size is not 0.
+room-for-none : (w : ℕ) → ltb (length {A = ℕ} (replicate (0 * suc w) 0)) (suc w) ≡ true
+room-for-none w = lt-ltb _ (suc w) (rw (length-replicate {A = ℕ} (0 * suc w) 0, zero-mul (suc w)) (omega arith))
+
+room-for-one : (w size : ℕ) → 1 ≤ size → ltb (length {A = ℕ} (replicate (size * suc w) 0)) (suc w) ≡ false
+room-for-one w size h =
+    let many : 1 * suc w ≤ size * suc w = mul-le-mul-right (suc w) h in
+    le-ltb _ (suc w) (rw (length-replicate {A = ℕ} (size * suc w) 0) (omega arith))
+
+pub printing-unreadable : printingOf Unreadable ≡ Refused 0
+unfolding printingOf
+printing-unreadable = refl
+
+module _ (m top size : ℕ) where
+  pub size-refused : largestSize < size → printingOf (Asked m top size) ≡ Refused 0
+  unfolding printingOf
+  size-refused h = rw (lt-ltb largestSize size h, printingOf)
+
+  module _ (h : size ≤ largestSize) where
+    pub degree-refused : lawfulDegree m ≡ false → printingOf (Asked m top size) ≡ Refused (refusalNumber WrongDegree)
+    unfolding printingOf paging unless
+    degree-refused d = rw (le-ltb largestSize size h, printingOf, d)
+
+    module _ (d : lawfulDegree m ≡ true) where
+      pub top-refused : lawfulTop top ≡ false → printingOf (Asked m top size) ≡ Refused (refusalNumber WrongDimension)
+      unfolding printingOf paging unless
+      top-refused t = rw (le-ltb largestSize size h, printingOf, d, t)
+
+      module _ (t : lawfulTop top ≡ true) where
+        pub none-refused : size ≡ 0 → printingOf (Asked m top size) ≡ Refused (refusalNumber ShortSlice)
+        unfolding printingOf paging positionSituations unless
+        none-refused z = rw (le-ltb largestSize size h, printingOf, d, t, z, room-for-none top)
+
+        pub all-listed : 1 ≤ size → printingOf (Asked m top size) ≡ Whole (listOf m top) size
+        unfolding printingOf paging positionSituations unless
+        all-listed some = rw (le-ltb largestSize size h, printingOf, d, t, room-for-one top size some)
+
+-- What is printed upon a line is lawful.
+pub start-underway : (line : Line) → Underway (printingOf line)
+start-underway Unreadable = rw printing-unreadable (omega arith)
+start-underway (Asked m top size) =
+    by-test (ltb largestSize size) (λ e. rw (size-refused m top size (ltb-true largestSize size e)) (omega arith))
+    (λ e. let h = ltb-false largestSize size e in
+    by-test (lawfulDegree m)
+    (λ d. by-test (lawfulTop top)
+    (λ t. by-test (eqb size 0) (λ z. rw (none-refused m top size h d t (eqb-true size 0 z)) (omega arith))
+    (λ z. let some : 1 ≤ size = (let n = eqb-false size 0 z in omega arith) in
+    rw (all-listed m top size h d t some) (record { degree = lawfulDegree-is m .0 d; top = lawfulTop-is top .0 t }, some)))
+    (λ t. rw (top-refused m top size h d t) (omega arith)))
+    (λ d. rw (degree-refused m top size h d) (omega arith)))

@@ -1,0 +1,4 @@
+-- What the proofs about orders share.
+pub mod DivisorLoop
+pub mod DivisorTable
+pub mod Finder

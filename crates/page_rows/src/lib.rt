@@ -1,0 +1,2 @@
+// The rows of a page: those of a lawful list above a position, as many as fit a slice. Customers call nothing here.
+pub mod serve; // the rows, from the start or after a pair of the list

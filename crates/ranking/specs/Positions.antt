@@ -1,0 +1,10 @@
+-- Whether a position is refused, as its pair is. Assumes nothing.
+use Prim.Native.Nat.{ℕ}
+use Rattle.definitions.specs.Answers.{unless}
+use Rattle.definitions.specs.Calls.{positionSituations}
+use Rattle.definitions.specs.declared.Position.{Position}
+use Rattle.generator.specs.declared.pair.Verdict.{Verdict}
+use Rattle.generator.specs.declared.pair.Verdict.the-variants.{Refused, Passed}
+
+unfoldable pub positionVerdict : ℕ → Position → Verdict
+positionVerdict m at = unless (positionSituations m at) Refused Passed
