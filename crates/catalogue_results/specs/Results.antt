@@ -1,10 +1,13 @@
 -- An answer about a catalogue as a struct for C: the refusal's number, 0 where there is none, and the answer's values, 0 where it has none.
 -- Assumes nothing.
-use mathlib.Core.List.{List, [], _∷_}
+use mathlib.Core.Bool.{cond}
+use mathlib.Core.List.{List, map}
 use Prim.Native.Nat.{ℕ, _+_}
-use Rattle.definitions.specs.Answers.{refusalNumber, rowNumbers}
-use Rattle.definitions.specs.declared.NextRow.{NextRow}
-use Rattle.definitions.specs.declared.NextRow.the-variants.{Found, End}
+use lib.Dec.{ltb}
+use lib.ListN.{length}
+use Rattle.definitions.specs.Answers.{refusalNumber}
+use Rattle.definitions.specs.Number.{numbers}
+use Rattle.definitions.specs.Ranking.{longestRow}
 use Rattle.catalogue.specs.declared.seek.BodyPlace.{BodyPlace}
 use Rattle.catalogue.specs.declared.seek.Located.{Located}
 use Rattle.catalogue.specs.declared.seek.Located.the-variants.{At, Missing}
@@ -21,7 +24,10 @@ abbrev pub bodyResult : Located → FenyurkaBody
 bodyResult (At b) = record { refusal = 0; top = b .top; rows = b .rows; offset = b .offset; length = b .size; «row_size» = b .stride }
 bodyResult (Missing r) = record { refusal = refusalNumber r; top = 0; rows = 0; offset = 0; length = 0; «row_size» = 0 }
 
--- The next row, of top dimension T, and the place behind it: T + 1 numbers count. At the end none does, and all are 0.
-abbrev pub rowResult : NextRow → ℕ → ℕ → FenyurkaRow
-rowResult (Found r) top next = record { count = top + 1; next = next; numbers = rowNumbers r }
-rowResult End top next = record { count = 0; next = next; numbers = 0 ∷ 0 ∷ 0 ∷ 0 ∷ 0 ∷ 0 ∷ 0 ∷ 0 ∷ 0 ∷ [] }
+-- The next row, of top dimension T, by its values, and the place behind it: T + 1 numbers count. At the end there are no values, so none counts.
+abbrev pub rowResult : List ℕ → ℕ → ℕ → FenyurkaRow
+rowResult values top next = record {
+  count = cond (ltb 1 (length values)) (top + 1) 0;
+  next = next;
+  numbers = map (value values) (numbers 1 longestRow);
+}

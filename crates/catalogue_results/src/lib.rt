@@ -3,7 +3,7 @@ use catalogue::seek::Located;
 use definitions::NextRow;
 use definitions::Opening;
 ghost use mathlib.Core.Path.{_≡_};
-ghost use Rattle.definitions.specs.Answers.{openingValues};
+ghost use Rattle.definitions.specs.Answers.{openingValues, nextRowValues};
 ghost use Rattle.catalogue_results.specs.Results.{catalogueResult, bodyResult, rowResult};
 
 // How many degrees a catalogue has.
@@ -71,7 +71,7 @@ pub struct FenyurkaRow {
 }
 
 pub fn row(answer: NextRow, top: u32, next: usize) -> FenyurkaRow
-    ensures { λ r. ⌜ r ≡ rowResult answer top next ⌝ }
+    ensures { λ r. ⌜ r ≡ rowResult (nextRowValues answer) top next ⌝ }
 {
     match answer {
         NextRow::Found(found) => FenyurkaRow {

@@ -1,6 +1,7 @@
 -- What C asks of a list: a page from a position, and the row at a place of its body. Assumes nothing.
 use mathlib.Core.List.{List}
 use Prim.Native.Nat.{ℕ}
+use Rattle.definitions.specs.Answers.{nextRowValues}
 use Rattle.definitions.specs.Calls.{pageRequest}
 use Rattle.definitions.specs.Catalogue.{nextRow, nextPlace}
 use Rattle.definitions.specs.declared.Position.{Position}
@@ -20,4 +21,4 @@ pageOf list position = pageRequest (listOf list) position
 -- The next row of the body and the place behind it.
 abbrev pub rowAtPlace : FenyurkaList → List ℕ → ℕ → FenyurkaRow
 rowAtPlace list body place =
-    rowResult (nextRow (list .degree) (list .top) body place) (list .top) (nextPlace (list .degree) (list .top) body place)
+    rowResult (nextRowValues (nextRow (list .degree) (list .top) body place)) (list .top) (nextPlace (list .degree) (list .top) body place)
