@@ -79,6 +79,15 @@ asked (m ∷ top ∷ size ∷ n ∷ l) = Unreadable
 unfoldable pub readLine : List ℕ → Line
 readLine s = asked (lineNumbers s)
 
+-- The refusal that belongs to programs alone: of a line that cannot be read, and of a page size above the largest.
+abbrev pub unreadable : ℕ
+unreadable = 0
+
+-- What a line holds, as document 01's numbers: degree, T and page size, or the number of that refusal.
+abbrev pub lineValues : Line → List ℕ
+lineValues (Asked m top size) = m ∷ top ∷ size ∷ []
+lineValues Unreadable = unreadable ∷ []
+
 -- ---- the text
 
 -- The bytes of a text of plain letters.
@@ -129,11 +138,11 @@ listText l size =
 
 -- The printed text: an unreadable line or a page size above 1000 first, then the refusals of a page that holds `size` rows, then the list.
 unfoldable pub answerText : Line → List ℕ
-answerText Unreadable = refusedText 0
+answerText Unreadable = refusedText unreadable
 answerText (Asked m top size) =
     let l : Selection = record { degree = m; top = top } in
     elim (ltb largestSize size) [
-      | true ↦ refusedText 0
+      | true ↦ refusedText unreadable
       | false ↦ unless (paging (pageRequest l Start) (replicate (size * rowWidth l) 0)) (λ (n : Refusal). refusedText (refusalNumber n)) (listText l size)
     ]
 

@@ -1,5 +1,5 @@
--- The three demands, one file each; the table's words for a pair's refusals; the words of the period; the same of the calls themselves and of the C
--- functions; and that every contract leaves no choice.
+-- The three demands, one file each; the table's words for a pair's refusals; catalogues in a file's own words; the words of the period; the same of
+-- the calls themselves and of the C functions; what the listing prints; and that every contract leaves no choice.
 pub mod Situations
 pub mod PairTable
 pub mod Demand1
@@ -10,4 +10,5 @@ pub mod Demand3
 pub mod Arguments
 pub mod Contracts
 pub mod FromC
+pub mod Printed
 pub mod Unique

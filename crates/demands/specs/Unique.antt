@@ -24,6 +24,8 @@ use Rattle.listing.proofs.put_row.Reads as put-row
 use Rattle.listing.proofs.put_page.Reads as put-page
 use Rattle.listing.proofs.put_total.Reads as put-total
 use Rattle.listing.proofs.put_refused.Reads as put-refused
+use Rattle.listing_parts.proofs.start.Reads as start
+use Rattle.listing_parts.proofs.parts.next.Reads as next-part
 use Rattle.catalogue_reader.proofs.reader as reader
 use Rattle.catalogue_reader.proofs.next as next
 use Rattle.catalogue_reader.proofs.advance as advance
@@ -35,7 +37,7 @@ use Rattle.interface.proofs.fenyurka_points.Reads as c-points
 use Rattle.interface.proofs.fenyurka_open.Reads as c-open
 use Rattle.interface.proofs.fenyurka_lookup.Reads as c-lookup
 use Rattle.interface.proofs.fenyurka_row.Reads as c-row
-use Rattle.demands.specs.Arguments.{second, fourth, fifth}
+use Rattle.demands.specs.Arguments.{second, third, fourth, fifth}
 
 -- ---- what is shown
 
@@ -82,6 +84,9 @@ place-behind-unique κs a r r′ e e′ = same
 pub read-line-unique : Determined read-line.Post (λ κs r e. r)
 read-line-unique κs a r r′ e e′ = same
 
+pub start-unique : Determined start.Post (λ κs r e. r)
+start-unique κs a r r′ e e′ = same
+
 -- ---- calls with a lent slice
 
 pub page-unique : Determined page.Post (λ κs r e. r and now (second e))
@@ -110,6 +115,10 @@ put-total-unique κs a r r′ e e′ = both
 
 pub put-refused-unique : Determined put-refused.Post (λ κs r e. r and now (e .0))
 put-refused-unique κs a r r′ e e′ = both
+
+-- The next part of the listing's text: two slices, of numbers and of bytes.
+pub next-part-unique : Determined next-part.Post (λ κs r e. r and now (second e) and now (third e))
+next-part-unique κs a r r′ e e′ x y = ap₂ _and_ (same (x .0) (y .0)) (both (x .1) (y .1))
 
 -- ---- the reader: the toolchain gives no `Post` for a struct that holds a slice, so the clauses themselves stand here, in any model of the logic
 

@@ -13,7 +13,7 @@ use borrow.Author.Tests.{le-ltb, lt-ltb, ltb-true, ltb-false, eqb-true, eqb-fals
 use Rattle.definitions.specs.Answers.{unless, refusalNumber}
 use Rattle.definitions.specs.Calls.{pageRequest, paging, positionSituations}
 use Rattle.definitions.specs.Generator.{lawfulDegree}
-use Rattle.definitions.specs.Listing.{answerText, largestSize, readLine, listing}
+use Rattle.definitions.specs.Listing.{answerText, largestSize, readLine, unreadable, listing}
 use Rattle.definitions.specs.Ranking.{lawfulTop, rowWidth}
 use Rattle.definitions.specs.declared.Line.{Line}
 use Rattle.definitions.specs.declared.Line.the-variants.{Asked, Unreadable}
@@ -34,11 +34,11 @@ listOf m top = record { degree = m; top = top }
 
 -- What is printed: an unreadable line or a page size above 1000 first, then the refusals of a page that holds `size` rows, then the list.
 unfoldable pub printingOf : Line → Printing
-printingOf Unreadable = Refused 0
+printingOf Unreadable = Refused unreadable
 printingOf (Asked m top size) =
     let l : Selection = listOf m top in
     elim (ltb largestSize size) [
-      | true ↦ Refused 0
+      | true ↦ Refused unreadable
       | false ↦ unless (paging (pageRequest l Start) (replicate (size * rowWidth l) 0)) (λ (n : Refusal). Refused (refusalNumber n)) (Whole l size)
     ]
 
@@ -70,12 +70,12 @@ room-for-one w size h =
     let many : 1 * suc w ≤ size * suc w = mul-le-mul-right (suc w) h in
     le-ltb _ (suc w) (rw (length-replicate {A = ℕ} (size * suc w) 0) (omega arith))
 
-pub printing-unreadable : printingOf Unreadable ≡ Refused 0
+pub printing-unreadable : printingOf Unreadable ≡ Refused unreadable
 unfolding printingOf
 printing-unreadable = refl
 
 module _ (m top size : ℕ) where
-  pub size-refused : largestSize < size → printingOf (Asked m top size) ≡ Refused 0
+  pub size-refused : largestSize < size → printingOf (Asked m top size) ≡ Refused unreadable
   unfolding printingOf
   size-refused h = rw (lt-ltb largestSize size h, printingOf)
 
