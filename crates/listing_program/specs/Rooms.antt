@@ -4,7 +4,7 @@ use Rattle.definitions.specs.Ranking.{longestRow}
 use Rattle.listing_parts.specs.Room.{stepRoom}
 
 abbrev rowsAtHand : ℕ
-rowsAtHand = 4096
+rowsAtHand = 3072
 
 abbrev pub mostNumbers : ℕ
 mostNumbers = rowsAtHand * longestRow

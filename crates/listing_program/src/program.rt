@@ -13,7 +13,7 @@ use listing_parts::Printing;
 use listing_parts::parts;
 
 // More rows than any list has, so that one search serves a whole list.
-const ROWS_AT_HAND: usize = 4096;
+const ROWS_AT_HAND: usize = 3072;
 
 // The numbers of so many rows, and the bytes of their text.
 const MOST_NUMBERS: usize = ROWS_AT_HAND * limits::LONGEST_ROW;
