@@ -20,8 +20,7 @@ slice-aggregate-text c = bytes-long
 
 print-within-requires : tie.Need-print-within-requires
 print-within-requires c κs =
-    let s = c .before .before .before in
-    (
+    let s = c .before .before .before in (
       (s .pre .0 .0, subst (λ (n : ℕ). s .args .numbers ≤ n) numbers-long (s .pre .0 .1)),
       (s .pre .1 .0, subst (λ (n : ℕ). s .args .bytes ≤ n) bytes-long (s .pre .1 .1)),
     )
