@@ -106,7 +106,8 @@ module _ (w count size done : ℕ) (further : Bool) (rows : List ℕ) where
       let step = stepText size (done + i) (ltb (i + 1) count || further) (take w (drop (i * w) rows)) in
       let turn = rest-turn i h in
       let sum = ap length turn ∙ length-append step (rest (i + 1)) in
-      let inside : at + length step ≤ length text = (let m : suc i * stepRoom ≤ count * stepRoom = mul-le-mul-right stepRoom h in omega (arith, here .short, here .long)) in
+      let next : suc i * stepRoom ≤ count * stepRoom = mul-le-mul-right stepRoom h in
+      let inside : at + length step ≤ length text = omega (arith, here .short, here .long) in
       record {
         within = omega arith;
         short = omega (arith, here .short);
