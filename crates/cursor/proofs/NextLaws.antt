@@ -1,7 +1,7 @@
 -- What a slice filled from a cursor's position on says of the rows that are left: the rows in it are the next ones, the position after the last of
 -- them leaves the others, and a further row exists exactly where any are left. Assumes nothing.
 use mathlib.Core.Path.{_≡_, refl, sym, ap, ap₂, _∙_}
-use mathlib.Core.Bool.{Bool, true, false}
+use mathlib.Core.Bool.{false}
 use mathlib.Core.List.{List, [], _∷_}
 use Prim.Native.Nat.{ℕ, zero, suc, _+_, _-_, _*_, _/_, _<_, _≤_, min}
 use native.Mathlib.Nat.{le-div-iff-mul-le, div-mul-le-self, mul-le-mul-right, add-zero}
@@ -12,7 +12,7 @@ use lib.Seq.{length-take-le}
 use borrow.Author.Tests.{lt-ltb, le-ltb, ltb-true}
 use Rattle.definitions.specs.Number.{join, over}
 use Rattle.definitions.specs.Pages.{Cut, page, more}
-use Rattle.definitions.specs.Ranking.{rowWidth, rowKey, ranked, cutOf}
+use Rattle.definitions.specs.Ranking.{rowWidth, cutOf}
 use Rattle.definitions.specs.declared.Position.{Position}
 use Rattle.definitions.specs.declared.Position.the-variants.{After}
 use Rattle.number_laws.specs.Truth.{truth-equal}
@@ -27,7 +27,6 @@ use Rattle.cursor.specs.Left.{left, passed, OnList, Handed}
 use Rattle.cursor.specs.Passed.{ruleAt, page-by, passed-some, passed-left, passed-on}
 use Rattle.cursor.specs.Turns.{left-wide}
 use Rattle.cursor.specs.declared.reading.Cursor.{Cursor}
-use Rattle.cursor.specs.declared.reading.Portion.{Portion}
 
 -- The first k of a list, and the others, by how many there are.
 module _ {X : Type 0} where

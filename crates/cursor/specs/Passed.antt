@@ -6,7 +6,6 @@ use Prim.Native.Nat.{ℕ, _≤_}
 use native.Mathlib.Omega.{arith}
 use lib.ListN.{length, take, drop, take-append-drop}
 use Rattle.definitions.specs.Pages.{page}
-use Rattle.definitions.specs.declared.Selection.{Selection}
 use Rattle.ranking_laws.specs.Rule.{Rule}
 use Rattle.ranking_laws.specs.Met.{ruleOf}
 use Rattle.ranking_laws.specs.Ranked.{ranked-is}

@@ -2,18 +2,18 @@
 -- of its own, chosen after what came before, that hold a row. What is printed so far and the text that is left are together the listing of the
 -- line; no call on the way lacks what it requires; each prints at least a byte, so it ends; and what is printed at the end is the listing. `Post` is
 -- what the toolchain makes of the source's `ensures`, and `Pre` of its `requires`. Assumes nothing.
-use mathlib.Core.Path.{_≡_, refl, sym, ap, ap₂, subst, _∙_}
-use mathlib.Core.Bool.{Bool, true, false}
+use mathlib.Core.Path.{_≡_, sym, ap, _∙_}
+use mathlib.Core.Bool.{true, false}
 use mathlib.Core.List.{List, [], _++_, append-assoc, append-nil}
-use Prim.Native.Nat.{ℕ, zero, suc, _+_, _≤_}
+use Prim.Native.Nat.{ℕ, suc, _+_, _≤_}
 use native.Mathlib.Omega.{arith}
 use lib.ListN.{length, take, length-append}
 use denote.Ref.{now}
 use Rattle.definitions.specs.Listing.{readLine, lineValues, listing}
-use Rattle.listing_parts.specs.Room.{stepRoom}
+use Rattle.listing_rows.specs.Room.{stepRoom}
 use Rattle.listing_parts.specs.Left.{textLeft, Underway, rowRoom}
-use Rattle.listing_parts.specs.Decision.{printingOf, start-text, start-underway}
-use Rattle.listing_parts.specs.Parts.{goesOn, partText, behindPart, fitting, partOf, part-left, part-underway, part-some, nothing-left, fitting-some, put-part}
+use Rattle.listing_parts.specs.Decision.{start-text, start-underway}
+use Rattle.listing_parts.specs.Parts.{goesOn, partText, behindPart, fitting, part-left, part-underway, part-some, nothing-left, fitting-some, put-part}
 use Rattle.listing_parts.specs.declared.Printing.{Printing}
 use Rattle.listing.proofs.read_line.Reads as read-line
 use Rattle.listing_parts.proofs.start.Reads as start

@@ -5,7 +5,7 @@ use Prim.Native.Nat.{ℕ, _+_, _≤_}
 use native.Mathlib.Nat.{zero-add}
 use native.Mathlib.Omega.{arith}
 use lib.ListN.{length}
-use Rattle.definitions.specs.Number.{join, over}
+use Rattle.definitions.specs.Number.{over}
 use Rattle.slice_laws.specs.Over.{over-nothing}
 use Rattle.slice_laws.specs.Place.{placed, behind, placed-fits, behind-fits}
 use Rattle.listing_parts.specs.Parts.{partRows, partText, behindPart, goesOn, partOf, fitting, partAt, rowsAfter, textAfter}

@@ -1,8 +1,8 @@
 -- The next rows as a part: by whether a row is left, and whether one is left over. Assumes nothing.
 use mathlib.Core.Path.{_≡_, refl, sym, ap, ap₂, _∙_}
-use mathlib.Core.Bool.{Bool, true, false, false≢true}
+use mathlib.Core.Bool.{true, false, false≢true}
 use mathlib.Core.List.{List, [], _∷_, append-nil}
-use Prim.Native.Nat.{ℕ, _+_, _*_, _/_, _≤_, _<_, min}
+use Prim.Native.Nat.{ℕ, _+_, _*_, _/_, _≤_, min}
 use native.Mathlib.Nat.{add-zero, mul-le-mul-right, div-mul-le-self}
 use native.Mathlib.Omega.{arith}
 use lib.ListN.{length, take, drop, length-take, take-append-drop}
@@ -12,19 +12,18 @@ use Rattle.definitions.specs.Ranking.{rowWidth}
 use Rattle.definitions.specs.Listing.{pageText}
 use Rattle.slice_laws.specs.Place.{placed, behind}
 use Rattle.page_laws.specs.Rows.{rowsOf}
-use Rattle.page_line.specs.Due.{mostRows}
 use Rattle.cursor.specs.Left.{left, passed}
 use Rattle.cursor.specs.declared.reading.Cursor.{Cursor}
 use Rattle.cursor.specs.declared.reading.Portion.{Portion}
-use Rattle.listing_parts.specs.Printed.{some, rowsText}
-use Rattle.listing_parts.specs.Room.{stepRoom, empty-page}
+use Rattle.listing_rows.specs.Printed.{some, rowsText}
+use Rattle.listing_rows.specs.Room.{stepRoom, empty-page}
 use Rattle.listing_parts.specs.Left.{OnWay}
-use Rattle.listing_parts.specs.Parts.{HandedWithin, rowsPart, partRows, partText, behindRows, behindPart, partOf}
+use Rattle.listing_parts.specs.Parts.{rowsPart, partRows, partText, behindRows, behindPart, partOf}
 use Rattle.listing_parts.specs.declared.Printing.{Printing}
 use Rattle.listing_parts.specs.declared.Printing.the-variants.{Rows, Total}
 use Rattle.listing_parts.specs.declared.parts.Part.{Part}
 use Rattle.listing_parts.proofs.Front.{put-front, part-is}
-use Rattle.listing_parts.proofs.TakeRows.{within-back}
+use Rattle.listing_rows.specs.Taken.{HandedWithin, within-back}
 
 -- As many rows as fit both slices fit each.
 pub fits-numbers : (n w b : ℕ) → min (n / w) b * w ≤ n

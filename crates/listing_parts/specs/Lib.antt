@@ -1,6 +1,4 @@
 -- The text of the listing in parts: what the contracts cite, and the laws that their proofs and the theorem of the parts rest on.
-pub mod Printed
-pub mod Room
 pub mod Left
 pub mod Decision
 pub mod Parts

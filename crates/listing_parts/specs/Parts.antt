@@ -1,31 +1,28 @@
 -- A part of the text, and what is left behind it: a line, or the first rows that are left with the lines of their pages. THE PARTS JOINED ARE THE
 -- TEXT: a part and the text that is left behind it are the text that was left, wherever the rows are cut; and no part is empty while a row fits.
 -- Assumes nothing.
-use mathlib.Core.Path.{_≡_, refl, sym, ap, ap₂, _∙_}
+use mathlib.Core.Path.{_≡_, refl, sym, ap, _∙_}
 use mathlib.Core.Bool.{Bool, true, false, cond, false≢true}
 use mathlib.Core.List.{List, [], _∷_, _++_, append-assoc, append-nil}
 use Prim.Native.Nat.{ℕ, zero, suc, _+_, _/_, _≤_, _<_, min}
 use native.Mathlib.Nat.{zero-add, le-div-iff-mul-le}
 use native.Mathlib.Omega.{arith}
-use lib.ListN.{length, take, drop, length-append, length-take, length-drop, take-append-drop}
+use lib.ListN.{length, take, drop, length-append, take-append-drop}
 use lib.Seq.{drop-nil, take-at}
 use Rattle.definitions.specs.Number.{join, over}
 use Rattle.definitions.specs.Ranking.{longestRow, ranked}
-use Rattle.definitions.specs.Listing.{refusedText, headerText, rowText, pageText, totalText}
-use Rattle.definitions.specs.declared.Selection.{Selection}
+use Rattle.definitions.specs.Listing.{refusedText, headerText, pageText, totalText}
 use Rattle.number_laws.specs.Truth.{by-test}
 use Rattle.number_laws.specs.Bounds.{lead-high}
 use Rattle.slice_laws.specs.Over.{over-front}
 use Rattle.ranking_laws.specs.Ranked.{ranked-few}
-use Rattle.cursor.specs.Left.{left, startOf, passed, OnList}
+use Rattle.cursor.specs.Left.{left, startOf, passed}
 use Rattle.cursor.specs.Passed.{passed-left, passed-on}
 use Rattle.cursor.specs.Turns.{left-start, start-reads}
 use Rattle.cursor.specs.declared.reading.Cursor.{Cursor}
-use Rattle.cursor.specs.declared.reading.Portion.{Portion}
-use Rattle.page_line.specs.Due.{dueText}
-use Rattle.listing_parts.specs.Printed.{some, printed, printedFrom, stepText, rowsText, list-is-printed, parts-are-printed}
-use Rattle.listing_parts.specs.Room.{stepRoom, row-some-text, empty-page, refused-some, header-some, total-some}
-use Rattle.listing_parts.specs.Left.{textLeft, OnWay, Underway, rowRoom}
+use Rattle.listing_rows.specs.Printed.{some, printed, printedFrom, rowsText, list-is-printed, parts-are-printed}
+use Rattle.listing_rows.specs.Room.{stepRoom, row-some-text, empty-page, refused-some, header-some, total-some}
+use Rattle.listing_parts.specs.Left.{textLeft, Underway, rowRoom}
 use Rattle.listing_parts.specs.declared.Printing.{Printing}
 use Rattle.listing_parts.specs.declared.Printing.the-variants.{Refused, Whole, Rows, Total, Nothing}
 use Rattle.listing_parts.specs.declared.parts.Part.{Part}
@@ -84,13 +81,6 @@ rowsAfter at s t = over 0 (join (partRows (fitting at s t) at)) s
 
 abbrev pub textAfter : Printing → List ℕ → List ℕ → List ℕ
 textAfter at s t = over 0 (partText (fitting at s t) at) t
-
--- The next rows handed out, at most so many, over the front of the slice s that is t now.
-pub record HandedWithin (c : Cursor) (most : ℕ) (s : List ℕ) (r : Portion) (t : List ℕ) : Type 0 where
-  pub count : r .rows ≡ min most (length (left c))
-  pub written : t ≡ over 0 (join (take most (left c))) s
-  pub next : r .next ≡ passed c (take most (left c))
-  pub more : r .more ≡ some (drop most (left c))
 
 -- ---- a part and what is left behind it
 

@@ -2,15 +2,12 @@
 ghost use mathlib.Core.Path.{_≡_};
 ghost use Prim.Native.Nat.{_≤_};
 ghost use lib.ListN.{length};
-ghost use Rattle.listing_parts.specs.Room.{stepRoom};
+ghost use Rattle.listing_rows.specs.Room.{stepRoom};
 ghost use Rattle.listing_parts.specs.Left.{Underway, rowRoom};
 ghost use Rattle.listing_parts.specs.Parts.{partAt, rowsAfter, textAfter};
 use crate::Printing;
 use crate::rows::next_rows;
 use cursor::reading;
-
-// The most bytes of a row and of the line of its page.
-pub const STEP_ROOM: usize = 136;
 
 // A part that was put: its bytes, whether more is left, and what.
 pub struct Part {

@@ -1,10 +1,10 @@
 -- The room at hand: the numbers of more rows than any list has, and the bytes of their text. Assumes nothing.
 use Prim.Native.Nat.{ℕ, _*_}
 use Rattle.definitions.specs.Ranking.{longestRow}
-use Rattle.listing_parts.specs.Room.{stepRoom}
+use Rattle.listing_rows.specs.Room.{stepRoom}
 
 abbrev rowsAtHand : ℕ
-rowsAtHand = 4096
+rowsAtHand = 3072
 
 abbrev pub mostNumbers : ℕ
 mostNumbers = rowsAtHand * longestRow

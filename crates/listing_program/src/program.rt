@@ -3,7 +3,7 @@
 ghost use Prim.Native.Nat.{_≤_};
 ghost use lib.ListN.{length};
 ghost use Rattle.definitions.specs.Ranking.{longestRow};
-ghost use Rattle.listing_parts.specs.Room.{stepRoom};
+ghost use Rattle.listing_rows.specs.Room.{stepRoom};
 ghost use Rattle.listing_parts.specs.Left.{Underway};
 ghost use Rattle.listing_program.specs.Rooms.{mostNumbers, mostBytes};
 use crate::input::LINE_ROOM;
@@ -13,12 +13,12 @@ use listing_parts::Printing;
 use listing_parts::parts;
 
 // More rows than any list has, so that one search serves a whole list.
-const ROWS_AT_HAND: usize = 4096;
+const ROWS_AT_HAND: usize = 3072;
 
 // The numbers of so many rows, and the bytes of their text.
 const MOST_NUMBERS: usize = ROWS_AT_HAND * limits::LONGEST_ROW;
 
-const MOST_BYTES: usize = ROWS_AT_HAND * parts::STEP_ROOM;
+const MOST_BYTES: usize = ROWS_AT_HAND * listing_rows::STEP_ROOM;
 
 // The first n bytes of a text.
 fn show(text: &[u8], n: usize)

@@ -1,9 +1,9 @@
-// Lines that a careless reader would take, or refuse, wrongly, and lists of many pages, with what the listing program prints for each. There is room
-// for one row, or two short ones, and for the text of one, so that a list comes in many parts. Lines that end with their only newline stand in the
-// file `stdin`, the others here.
+// Lines that a careless reader would take, or refuse, wrongly, and lists of many pages, with what the listing program prints for each. There is the
+// least room that is lawful, for one row and its text, so that a list comes in many parts. Lines that end with their only newline stand in the file
+// `stdin`, the others here.
 use limits::LONGEST_ROW;
-use listing_parts::parts::STEP_ROOM;
 use listing_program::program;
+use listing_rows::STEP_ROOM;
 
 fn print(line: &[u8]) {
     program::print(line, LONGEST_ROW, STEP_ROOM);

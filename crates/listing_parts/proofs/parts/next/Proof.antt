@@ -1,13 +1,11 @@
 -- `listing_parts::parts::next` puts the next part, by what is left to print. Assumes nothing.
-use mathlib.Core.Path.{_≡_, refl, sym, ap, _∙_}
+use mathlib.Core.Path.{refl, sym, ap}
 use native.Mathlib.Omega.{arith}
 use denote.Ref.{now}
-use lib.ListN.{length}
 use borrow.Author.Needs.{needs}
 use Rattle.definitions.specs.Listing.{refusedText, headerText, totalText}
 use Rattle.slice_laws.specs.Over.{over-nothing}
-use Rattle.listing_parts.specs.Room.{refused-room, header-room, total-room}
-use Rattle.listing_parts.specs.Left.{Underway, rowRoom}
+use Rattle.listing_rows.specs.Room.{refused-room, header-room, total-room}
 use Rattle.cursor.specs.declared.reading.Cursor.{Cursor}
 use Rattle.listing_parts.specs.declared.Printing.the-variants.{Refused, Whole, Rows, Total, Nothing}
 use Rattle.listing_parts.proofs.Front.{put-front, line-part}

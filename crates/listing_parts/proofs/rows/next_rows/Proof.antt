@@ -1,16 +1,16 @@
 -- `listing_parts::rows::next_rows` has the cursor hand out as many rows as fit both slices, and puts them. Assumes nothing.
-use mathlib.Core.Path.{_≡_, sym, ap, _∙_}
+use mathlib.Core.Path.{_≡_, ap, _∙_}
 use mathlib.Core.List.{List}
-use Prim.Native.Nat.{ℕ, _+_, _*_, _/_, _≤_, _<_, min}
+use Prim.Native.Nat.{ℕ, _*_, _/_, _≤_, min}
 use native.Mathlib.Nat.{mul-le-mul-right}
 use native.Mathlib.Omega.{arith}
 use denote.Ref.{now}
 use lib.ListN.{length}
 use borrow.Author.Needs.{needs}
 use Rattle.definitions.specs.Ranking.{rowWidth, longestRow}
-use Rattle.page_line.specs.Due.{mostRows}
-use Rattle.listing_parts.specs.Room.{stepRoom}
-use Rattle.listing_parts.specs.Parts.{HandedWithin, fitting, fitting-some}
+use Rattle.listing_rows.specs.Room.{stepRoom}
+use Rattle.listing_rows.specs.Taken.{HandedWithin}
+use Rattle.listing_parts.specs.Parts.{fitting, fitting-some}
 use Rattle.listing_parts.specs.declared.Printing.{Printing}
 use Rattle.listing_parts.specs.declared.Printing.the-variants.{Rows}
 use Rattle.listing_parts.proofs.NextRows.{fits-numbers, fits-bytes, few-handed, next-none, next-more, next-end}

@@ -6,8 +6,7 @@ use Prim.Native.Nat.{ℕ, _≤_, _<_}
 use native.Mathlib.Omega.{arith}
 use lib.ListN.{length}
 use borrow.Author.Needs.{needs}
-use Rattle.definitions.specs.Ranking.{longestRow}
-use Rattle.listing_parts.specs.Room.{stepRoom}
+use Rattle.listing_rows.specs.Room.{stepRoom}
 use Rattle.listing_parts.specs.Left.{Underway, rowRoom}
 use Rattle.listing_parts.specs.Parts.{fitting, toGo, part-underway, part-falls, fitting-some, row-room-most, put-part}
 use Rattle.listing_program.proofs.program.print_parts.Statement.{statement}

@@ -1,6 +1,5 @@
 -- `listing_program::program::print_within` lends the first numbers and bytes. Assumes nothing.
 use mathlib.Core.Path.{sym, subst}
-use native.Mathlib.Omega.{arith}
 use denote.Ref.{now}
 use lib.Seq.{length-take-le}
 use borrow.Author.Needs.{needs}

@@ -1,25 +1,24 @@
 -- Rows put one behind the other with the lines of their pages: what is put and what is left to put are the whole text, at the start and after each
 -- row; at the end nothing is left. Assumes nothing.
 use mathlib.Core.Path.{_≡_, refl, sym, ap, _∙_}
-use mathlib.Core.Bool.{Bool, true, false, _||_}
+use mathlib.Core.Bool.{Bool, _||_}
 use mathlib.Core.List.{List, [], _∷_, _++_}
 use Prim.Native.Nat.{ℕ, suc, _+_, _-_, _*_, _≤_, _<_}
 use native.Mathlib.Nat.{add-zero, mul-le-mul-right}
 use native.Mathlib.Numerals.{add-one}
 use native.Mathlib.Omega.{arith}
 use lib.Dec.{ltb}
-use lib.ListN.{length, take, drop, getD, length-append, length-take, length-drop, drop-of-length-le}
+use lib.ListN.{length, take, drop, length-append, length-take, length-drop, drop-of-length-le}
 use lib.Seq.{drop-cons}
 use borrow.Author.Tests.{lt-ltb, le-ltb}
 use Rattle.definitions.specs.Number.{over}
-use Rattle.definitions.specs.Ranking.{longestRow}
 use Rattle.definitions.specs.Listing.{rowText}
 use Rattle.slice_laws.specs.Over.{over-nothing, over-append, over-then, over-then-room, length-over}
 use Rattle.slice_laws.specs.Place.{placed, behind, placed-fits, behind-fits}
 use Rattle.page_laws.specs.Rows.{rowsOf, length-rows, row-at}
 use Rattle.page_line.specs.Due.{dueText}
-use Rattle.listing_parts.specs.Printed.{some, stepText, rowsText}
-use Rattle.listing_parts.specs.Room.{stepRoom}
+use Rattle.listing_rows.specs.Printed.{some, stepText, rowsText}
+use Rattle.listing_rows.specs.Room.{stepRoom}
 
 -- ---- a row and the line of its page
 
@@ -107,7 +106,8 @@ module _ (w count size done : ℕ) (further : Bool) (rows : List ℕ) where
       let step = stepText size (done + i) (ltb (i + 1) count || further) (take w (drop (i * w) rows)) in
       let turn = rest-turn i h in
       let sum = ap length turn ∙ length-append step (rest (i + 1)) in
-      let inside : at + length step ≤ length text = (let m : suc i * stepRoom ≤ count * stepRoom = mul-le-mul-right stepRoom h in omega (arith, here .short, here .long)) in
+      let next : suc i * stepRoom ≤ count * stepRoom = mul-le-mul-right stepRoom h in
+      let inside : at + length step ≤ length text = omega (arith, here .short, here .long) in
       record {
         within = omega arith;
         short = omega (arith, here .short);

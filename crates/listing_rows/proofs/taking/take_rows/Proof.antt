@@ -1,4 +1,4 @@
--- `listing_parts::rows::take_rows` lends the cursor the part of the slice that so many rows fill. Assumes nothing.
+-- `listing_rows::taking::take_rows` lends the cursor the part of the slice that so many rows fill. Assumes nothing.
 use mathlib.Core.Path.{_≡_, sym, ap, refl}
 use Prim.Native.Nat.{ℕ, _*_, _≤_}
 use native.Mathlib.Nat.{mul-le-mul-right}
@@ -8,9 +8,9 @@ use lib.ListN.{length}
 use lib.Seq.{length-take-le}
 use borrow.Author.Needs.{needs}
 use Rattle.definitions.specs.Ranking.{rowWidth}
-use Rattle.listing_parts.proofs.TakeRows.{handed-within}
-use Rattle.listing_parts.proofs.rows.take_rows.Statement.{statement}
-use Rattle.listing_parts.proofs.rows.take_rows.Tie as tie
+use Rattle.listing_rows.proofs.TakeRows.{handed-within}
+use Rattle.listing_rows.proofs.taking.take_rows.Statement.{statement}
+use Rattle.listing_rows.proofs.taking.take_rows.Tie as tie
 
 abbrev start : tie.After-next-arg → tie.Start
 start c = c .before .before

@@ -1,8 +1,7 @@
 -- The next rows, at most so many, in a longer slice: a cursor hands them out into the part of the slice that so many rows fill. Assumes nothing.
 use mathlib.Core.Path.{_≡_, sym, ap, _∙_}
-use mathlib.Core.Bool.{true, false}
 use mathlib.Core.List.{List, [], _∷_, _++_}
-use Prim.Native.Nat.{ℕ, _+_, _*_, _/_, _≤_, _<_, min}
+use Prim.Native.Nat.{ℕ, _+_, _*_, _/_, _≤_, min}
 use native.Mathlib.Nat.{mul-div-cancel, mul-le-mul-right}
 use native.Mathlib.Omega.{arith}
 use lib.Dec.{leb, ltb}
@@ -13,14 +12,12 @@ use Rattle.definitions.specs.Number.{join, over}
 use Rattle.definitions.specs.Ranking.{rowWidth}
 use Rattle.number_laws.specs.Truth.{by-test}
 use Rattle.slice_laws.specs.Over.{over-part}
-use Rattle.page_laws.specs.Members.{take-within}
-use Rattle.page_laws.specs.Rows.{Wide, rowsOf, length-join, rows-back}
+use Rattle.page_laws.specs.Rows.{length-join}
 use Rattle.cursor.specs.Left.{left, OnList, Handed}
-use Rattle.cursor.specs.Turns.{left-wide}
 use Rattle.cursor.specs.declared.reading.Cursor.{Cursor}
 use Rattle.cursor.specs.declared.reading.Portion.{Portion}
-use Rattle.listing_parts.specs.Printed.{some}
-use Rattle.listing_parts.specs.Parts.{HandedWithin}
+use Rattle.listing_rows.specs.Printed.{some}
+use Rattle.listing_rows.specs.Taken.{HandedWithin, those-wide}
 
 some-any : (l : List (List ℕ)) → ltb 0 (length l) ≡ some l
 some-any [] = le-ltb 0 0 (omega arith)
@@ -47,14 +44,11 @@ module _ (c : Cursor) (most : ℕ) (on : OnList c) where
   abbrev those : List (List ℕ)
   those = take most (left c)
 
-  those-wide : Wide w those
-  those-wide x i = left-wide c on x (take-within most (left c) x i)
-
   those-long : length (join those) ≤ most * w
   those-long =
       let few = length-take most (left c) in
       let fit : length those * w ≤ most * w = mul-le-mul-right w (omega arith) in
-      omega (arith, length-join w those those-wide)
+      omega (arith, length-join w those (those-wide c most on))
 
   module _ {end : ℕ} {s t u : List ℕ} {r : Portion} (place : end ≡ most * w) (fits : most * w ≤ length s) (h : Handed c (take end s) r t) where
     pub handed-within : u ≡ t ++ drop end s → HandedWithin c most s r u
@@ -74,9 +68,3 @@ module _ (c : Cursor) (most : ℕ) (on : OnList c) where
           next = rw rows at (h .next);
           more = h .more ∙ ap (λ (l : List (List ℕ)). ltb 0 (length l)) (h .behind ∙ others) ∙ some-any (drop most (left c));
         }
-
-  -- The rows are read back from the slice.
-  pub within-back : {s t : List ℕ} {r : Portion} → HandedWithin c most s r t → rowsOf w (r .rows) t ≡ those
-  within-back {s} {t} {r} h =
-      let number : r .rows ≡ length those = h .count ∙ sym (length-take most (left c)) in
-      rw (number, h .written) (rows-back w those s those-wide)

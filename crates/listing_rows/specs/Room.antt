@@ -19,7 +19,7 @@ use Rattle.row_text.specs.Rows.{rowBytes, row-none, row-some}
 use Rattle.page_line.specs.Texts.{page-line}
 use Rattle.page_line.specs.Due.{mostRows, dueText, due-true, due-false}
 use Rattle.listing.specs.Texts.{header-line, total-line, refused-line}
-use Rattle.listing_parts.specs.Printed.{stepText}
+use Rattle.listing_rows.specs.Printed.{stepText}
 
 -- The most bytes of a row and of the line of its page.
 abbrev pub stepRoom : ℕ

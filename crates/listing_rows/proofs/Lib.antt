@@ -1,0 +1,3 @@
+-- What the proofs of the rows share.
+pub mod PutRows
+pub mod TakeRows
