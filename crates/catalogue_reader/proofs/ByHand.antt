@@ -38,7 +38,8 @@ abbrev has-reader : (R : Lfts 1 → RattleType) → Stays (of-reader R .signatur
 has-reader R = (stay-none Held yes, tt)
 
 -- What its walk begins with and ends in, at a reader d.
-module _ {M : Type 1} (𝓤 : URA M) (H : Heap 𝓤) (A : Atoms 𝓤) (R : Lfts 1 → RattleType) (c : Clauses 𝓤 (of-reader R)) (κs : Lfts 1) (q : Share) (d : Reader) (g : c κs (d, tt) .ghost) where
+module _ {M : Type 1} (𝓤 : URA M) (H : Heap 𝓤) (A : Atoms 𝓤) (R : Lfts 1 → RattleType)
+    (c : Clauses 𝓤 (of-reader R)) (κs : Lfts 1) (q : Share) (d : Reader) (g : c κs (d, tt) .ghost) where
   abbrev chosen : walkOf 𝓤 H A (of-reader R) (has-reader R) c .Ghost
   chosen = ((κs, (q, tt), tt, (d, tt), (T′.lowered d ∷ [], tt)), g)
 

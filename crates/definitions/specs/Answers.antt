@@ -1,5 +1,8 @@
 -- Refusals: their numbers, the situations in which they are given, and the values of each answer. Assumes nothing.
-use Rattle.definitions.specs.Base.{Bool, true, false, List, [], _∷_, ℕ, Refusal, WrongDegree, WrongDimension, IllFormedPair, NotPrimitive, QuotientNotLinear, StepNotCoprime, ShortSlice, BeyondPeriod, IllFormedCatalogue, DegreeMissing, Judgement, Accepted, Rejected, Uniformity, Value, Undefined, PageAnswer, Page, NoPage, PointsAnswer, Written, NotWritten, Opening, Entries, Closed, Lookup, Body, NoBody, Row, NextRow, Found, End}
+use Rattle.definitions.specs.Base.{Bool, true, false, List, [], _∷_, ℕ, Refusal, WrongDegree, WrongDimension, IllFormedPair, NotPrimitive}
+use Rattle.definitions.specs.Base.{QuotientNotLinear, StepNotCoprime, ShortSlice, BeyondPeriod, IllFormedCatalogue, DegreeMissing, Judgement}
+use Rattle.definitions.specs.Base.{Accepted, Rejected, Uniformity, Value, Undefined, PageAnswer, Page, NoPage, PointsAnswer, Written}
+use Rattle.definitions.specs.Base.{NotWritten, Opening, Entries, Closed, Lookup, Body, NoBody, Row, NextRow, Found, End}
 use Rattle.definitions.specs.Number.{bit}
 
 -- Document 01's number of each refusal.

@@ -13,7 +13,8 @@ pub use Rattle.definitions.specs.declared.Position.{Position}
 pub use Rattle.definitions.specs.declared.Position.the-variants.{Start, After}
 pub use Rattle.definitions.specs.declared.PageRequest.{PageRequest}
 pub use Rattle.definitions.specs.declared.Refusal.{Refusal}
-pub use Rattle.definitions.specs.declared.Refusal.the-variants.{WrongDegree, WrongDimension, IllFormedPair, NotPrimitive, QuotientNotLinear, StepNotCoprime, ShortSlice, BeyondPeriod, IllFormedCatalogue, DegreeMissing}
+pub use Rattle.definitions.specs.declared.Refusal.the-variants.{WrongDegree, WrongDimension, IllFormedPair, NotPrimitive, QuotientNotLinear}
+pub use Rattle.definitions.specs.declared.Refusal.the-variants.{StepNotCoprime, ShortSlice, BeyondPeriod, IllFormedCatalogue, DegreeMissing}
 pub use Rattle.definitions.specs.declared.Judgement.{Judgement}
 pub use Rattle.definitions.specs.declared.Judgement.the-variants.{Accepted, Rejected}
 pub use Rattle.definitions.specs.declared.Uniformity.{Uniformity}

@@ -1,6 +1,9 @@
 -- Judging, a single t-value, pages and points: what each call answers and what each lent slice holds afterwards, for every input.
 -- Assumes nothing.
-use Rattle.definitions.specs.Base.{Bool, not, List, [], _∷_, _++_, ℕ, _-_, _/_, min, ltb, length, Refusal, WrongDegree, WrongDimension, IllFormedPair, NotPrimitive, QuotientNotLinear, StepNotCoprime, ShortSlice, BeyondPeriod, Selection, Position, Start, After, PageRequest, Judgement, Accepted, Rejected, Uniformity, Value, Undefined, PageAnswer, Page, NoPage, PointsAnswer, Written, NotWritten}
+use Rattle.definitions.specs.Base.{Bool, not, List, [], _∷_, _++_, ℕ, _-_, _/_, min, ltb, length, Refusal, WrongDegree, WrongDimension}
+use Rattle.definitions.specs.Base.{IllFormedPair, NotPrimitive, QuotientNotLinear, StepNotCoprime, ShortSlice, BeyondPeriod, Selection}
+use Rattle.definitions.specs.Base.{Position, Start, After, PageRequest, Judgement, Accepted, Rejected, Uniformity, Value, Undefined, PageAnswer}
+use Rattle.definitions.specs.Base.{Page, NoPage, PointsAnswer, Written, NotWritten}
 use Rattle.definitions.specs.Number.{join, over}
 use Rattle.definitions.specs.Answers.{Situation, situation, unless}
 use Rattle.definitions.specs.Generator.{lawfulDegree, wellFormed, period, primitive, linearQuotients, coprimeStep, step}

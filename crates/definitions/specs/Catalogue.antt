@@ -1,5 +1,7 @@
 -- The catalogue: its form, opening it, looking a degree up, reading a body row by row. Assumes nothing.
-use Rattle.definitions.specs.Base.{Bool, true, false, cond, not, _&&_, List, [], _∷_, ℕ, zero, suc, _+_, _-_, _*_, _%_, _^_, eqb, leb, ltb, length, take, drop, getD, Refusal, WrongDegree, IllFormedCatalogue, DegreeMissing, Opening, Entries, Closed, Lookup, Body, NoBody, Row, NextRow, Found, End}
+use Rattle.definitions.specs.Base.{Bool, true, false, cond, not, _&&_, List, [], _∷_, ℕ, zero, suc, _+_, _-_, _*_, _%_, _^_, eqb, leb, ltb}
+use Rattle.definitions.specs.Base.{length, take, drop, getD, Refusal, WrongDegree, IllFormedCatalogue, DegreeMissing, Opening, Entries, Closed}
+use Rattle.definitions.specs.Base.{Lookup, Body, NoBody, Row, NextRow, Found, End}
 use Rattle.definitions.specs.Number.{every}
 use Rattle.definitions.specs.Answers.{refusalNumber, Situation, situation, unless}
 use Rattle.definitions.specs.Generator.{leastDegree, largestDegree, lawfulDegree}
@@ -160,7 +162,17 @@ unfoldable pub rowAt : ℕ → ℕ → List ℕ → ℕ → Row
 rowAt m top body place =
     let w : ℕ = numberSize m in
     let t : ℕ → ℕ = tAt m top body place in
-    record { p = 2 ^ m + numberAt w body place; q = numberAt w body (place + w); step = numberAt w body (place + 2 * w); t3 = t 3; t4 = t 4; t5 = t 5; t6 = t 6; t7 = t 7; t8 = t 8 }
+    record {
+      p = 2 ^ m + numberAt w body place;
+      q = numberAt w body (place + w);
+      step = numberAt w body (place + 2 * w);
+      t3 = t 3;
+      t4 = t 4;
+      t5 = t 5;
+      t6 = t 6;
+      t7 = t 7;
+      t8 = t 8;
+    }
 
 -- The next row, p with its leading term, or the end.
 unfoldable pub nextRow : ℕ → ℕ → List ℕ → ℕ → NextRow

@@ -3,7 +3,8 @@ use Rattle.definitions.specs.Base.{Bool, true, false, _&&_, eqb, List, [
 use mathlib.Core.Path.{_≡_, refl, ap₂}
 use lib.Dec.{T, eqb→eq}
 use Rattle.definitions.specs.Answers.{judgementValues, uniformityValues, pageValues, unless}
-use Rattle.definitions.specs.Calls.{judgement, uniformity, pageRequest, pageAnswer, pageSlice, pointsSlice, pairSituations, judging, measuring, positionSituations, paging, pageRows, furtherRow, pointing}
+use Rattle.definitions.specs.Calls.{judgement, uniformity, pageRequest, pageAnswer, pageSlice, pointsSlice, pairSituations, judging, measuring}
+use Rattle.definitions.specs.Calls.{positionSituations, paging, pageRows, furtherRow, pointing}
 use Rattle.definitions.specs.Number.{first, every, count, numbers, keep, all, over, gcdWithin, gcd}
 use Rattle.definitions.specs.Polynomial.{_⊕_, degreeWithin, degree, byDigitsWithin, byDigits, prod, power, clear, bringDown, divide, quot, rem}
 use Rattle.definitions.specs.Generator.{wellFormed, order, primitive, found, expansionWithin, expansion, linearQuotients, step, coprimeStep, accepted}

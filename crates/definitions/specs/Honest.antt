@@ -17,7 +17,8 @@ unfolding more page
 end-has-all key at k l e = take-all k (rest key at l) (ltb-false k (length (rest key at l)) e)
 
 -- A page that says that a row follows has left one out.
-pub more-leaves-out : {X : Type 0} (key : X → List ℕ) (at : Cut) (k : ℕ) (l : List X) → more key at k l ≡ true → length (page key at k l) < length (rest key at l)
+pub more-leaves-out : {X : Type 0} (key : X → List ℕ) (at : Cut) (k : ℕ) (l : List X)
+    → more key at k l ≡ true → length (page key at k l) < length (rest key at l)
 unfolding more page
 more-leaves-out key at k l e =
     let h = ltb-true k (length (rest key at l)) e in

@@ -1,5 +1,7 @@
 -- The listing program: the line that it reads and the text that it prints, as bytes. Assumes nothing.
-use Rattle.definitions.specs.Base.{String, len, charAt, code, Bool, true, false, cond, _&&_, List, [], _∷_, _++_, map, ℕ, zero, suc, _+_, _-_, _*_, _/_, _%_, eqb, leb, ltb, length, take, drop, replicate, Refusal, Selection, Start, Line, Asked, Unreadable}
+use Rattle.definitions.specs.Base.{String, len, charAt, code, Bool, true, false, cond, _&&_, List, [], _∷_, _++_, map, ℕ, zero, suc, _+_, _-_}
+use Rattle.definitions.specs.Base.{_*_, _/_, _%_, eqb, leb, ltb, length, take, drop, replicate, Refusal, Selection, Start, Line, Asked}
+use Rattle.definitions.specs.Base.{Unreadable}
 use Rattle.definitions.specs.Number.{numbers, all, join}
 use Rattle.definitions.specs.Answers.{refusalNumber, unless}
 use Rattle.definitions.specs.Ranking.{rowWidth, ranked}
@@ -113,7 +115,8 @@ rowText (n ∷ k ∷ r) = decimal n ++ space ∷ rowText (k ∷ r)
 
 -- A page's number, its rows, and whether more follow.
 unfoldable pub pageText : ℕ → ℕ → Bool → List ℕ
-pageText number rows further = letters "page " ++ decimal number ++ letters " rows " ++ decimal rows ++ cond further (letters " more") (letters " end") ++ newline ∷ []
+pageText number rows further =
+    letters "page " ++ decimal number ++ letters " rows " ++ decimal rows ++ cond further (letters " more") (letters " end") ++ newline ∷ []
 
 unfoldable pub totalText : ℕ → List ℕ
 totalText rows = letters "total " ++ decimal rows ++ newline ∷ []

@@ -14,7 +14,8 @@ use Rattle.polynomial_laws.specs.Product.{product-degree}
 use Rattle.polynomial_laws.specs.Division.{division, quot-unique, rem-unique, rem-lt, quotient-degree}
 use Rattle.fraction_laws.specs.WellFormed.{Proper, proper-positive, proper-smaller, proper-degree}
 use Rattle.fraction_laws.specs.Expansion.{expansion-zero, expansion-more}
-use Rattle.fraction_laws.specs.Quotients.{LinearQuotients, linear-degree, linearQuotients-is, linearQuotients-zero, linearQuotients-step, linearQuotients-next}
+use Rattle.fraction_laws.specs.Quotients.{LinearQuotients, linear-degree, linearQuotients-is, linearQuotients-zero, linearQuotients-step}
+use Rattle.fraction_laws.specs.Quotients.{linearQuotients-next}
 
 abbrev pub root : Pair
 root = record { p = 1; q = 0 }

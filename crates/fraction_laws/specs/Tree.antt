@@ -4,7 +4,8 @@
 use mathlib.Core.Path.{_≡_, refl, sym, ap, _∙_, subst}
 use mathlib.Core.Logic.{_⊎_, inl, inr}
 use mathlib.Core.Bool.{true}
-use mathlib.Core.List.{[], _∷_, _++_, List·Memᴰ, List·Memᴰ·head, List·Memᴰ·append-cases, List·Memᴰ·not-nil, Memᴰ·append-left, Memᴰ·append-right, List·Memᴰ·eq-of-singleton, List·Nodup, Pairwise·nil}
+use mathlib.Core.List.{[], _∷_, _++_, List·Memᴰ, List·Memᴰ·head, List·Memᴰ·append-cases, List·Memᴰ·not-nil, Memᴰ·append-left, Memᴰ·append-right}
+use mathlib.Core.List.{List·Memᴰ·eq-of-singleton, List·Nodup, Pairwise·nil}
 use Prim.Native.Nat.{ℕ, zero, suc, _+_, _^_, _≤_}
 use native.Mathlib.Nat.{zero-add, add-zero}
 use native.Mathlib.Omega.{arith}
@@ -15,7 +16,8 @@ use Rattle.number_laws.specs.Lists.{nodup-more, nodup-join}
 use Rattle.polynomial_laws.specs.Degree.{HasDegree}
 use Rattle.fraction_laws.specs.WellFormed.{Proper, wellFormed-is, wellFormed-proper}
 use Rattle.fraction_laws.specs.Quotients.{two-linear, three-linear, linear-cases}
-use Rattle.fraction_laws.specs.Level.{root, parent, child-proper, quotient-child, parent-child, Grown, root-proper, root-grown, proper-root, child-grown, grown-nonzero, grown-hangs}
+use Rattle.fraction_laws.specs.Level.{root, parent, child-proper, quotient-child, parent-child, Grown, root-proper, root-grown, proper-root}
+use Rattle.fraction_laws.specs.Level.{child-grown, grown-nonzero, grown-hangs}
 
 -- ---- k levels below s
 data Below : ℕ → Pair → Pair → Type 0 where

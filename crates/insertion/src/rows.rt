@@ -10,7 +10,9 @@ ghost use Rattle.page_laws.specs.Rows.{rowsOf, shifted, spliced, inserted, Kept
 ghost use Rattle.insertion.specs.Ranks.{ranksOf};
 
 // In a row p, q and the step stand before the numbers that rank it.
-pub const RANKS_FROM: usize = 3;
+pub const STEP: usize = 2;
+
+pub const RANKS_FROM: usize = STEP + 1;
 
 // Whether the pair of the row of `a` at `i` stands before that of `b` at `j`: by p, then by q.
 fn pair_before(a: &[u32], i: usize, b: &[u32], j: usize) -> bool

@@ -3,7 +3,9 @@
 -- Assumes nothing.
 use mathlib.Core.Path.{_≡_, sym, ap, _∙_}
 use Prim.Native.Nat.{ℕ, zero, suc, _+_, _-_, _*_, _/_, _%_, _<_, _∣_}
-use native.Mathlib.Nat.{add-mul-mod-self-right, div-mul-cancel, mod-lt, dvd-refl, dvd-zero, dvd-mod-iff, dvd-sub, dvd-mul-left-of-dvd, mod-eq-sub-div-mul, mul-sub, add-mul, mul-left-comm, mul-one, le-of-dvd, div-add-mod', dvd-mul-left, dvd-mul-right, eq-one-of-dvd-one, pos-of-dvd-of-pos}
+use native.Mathlib.Nat.{add-mul-mod-self-right, div-mul-cancel, mod-lt, dvd-refl, dvd-zero, dvd-mod-iff, dvd-sub, dvd-mul-left-of-dvd}
+use native.Mathlib.Nat.{mod-eq-sub-div-mul, mul-sub, add-mul, mul-left-comm, mul-one, le-of-dvd, div-add-mod', dvd-mul-left, dvd-mul-right}
+use native.Mathlib.Nat.{eq-one-of-dvd-one, pos-of-dvd-of-pos}
 use native.Mathlib.Omega.{arith}
 use Rattle.definitions.specs.Number.{gcdWithin, gcd}
 use Rattle.number_laws.specs.Truth.{apart-by-order}

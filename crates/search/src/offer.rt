@@ -50,7 +50,7 @@ fn keep_row(p: u32, q: u32, out: &mut [u32], n: usize, f: Frame, row: &mut [u32]
     let capacity = f.capacity;
     let at = rows::find_slot(out, n, width, row);
     if at < capacity {
-        row[2] = find_step(list.degree, p, q);
+        row[rows::STEP] = find_step(list.degree, p, q);
         return rows::insert_row(out, n, width, capacity, at, row);
     }
     n

@@ -16,6 +16,7 @@ use crate::frame::Tally;
 use crate::frame::width_of;
 use definitions::Selection;
 use insertion::rows::RANKS_FROM;
+use insertion::rows::STEP;
 use insertion::rows::ranks_before;
 use limits::LONGEST_ROW;
 use net::bound::INVERTIBLE;
@@ -74,7 +75,7 @@ pub fn weigh(
     let width = width_of(list);
     row[0] = p;
     row[1] = q;
-    row[2] = 0;
+    row[STEP] = 0;
     let powers = powers(m, p, q);
     let mut value = next_t(m, p, q, 2, 0, &powers, INVERTIBLE);
     let mut s: usize = RANKS_FROM;

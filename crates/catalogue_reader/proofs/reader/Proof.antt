@@ -76,7 +76,8 @@ module _ {M : Type 1} (𝓤 : URA M) (H : Heap 𝓤) (A : Atoms 𝓤) (mem : Mem
   abbrev Cut : Contract 𝓤
   Cut = tripleOf 𝓤 H A cut.signature (cut.spec 𝓤 H A mem run)
 
-module _ {M : Type 1} (𝓤 : URA M) (H : Heap 𝓤) (A : Atoms 𝓤) (W : Given 𝓤 H A) (mem : Memory → SProp 𝓤) (run : Routine → Fun 𝓤) (κ : Lft) (q : Share) (s : RefT (List ℕ)) (m : ℕ) (ok : m < 2 ^ 32) where
+module _ {M : Type 1} (𝓤 : URA M) (H : Heap 𝓤) (A : Atoms 𝓤) (W : Given 𝓤 H A) (mem : Memory → SProp 𝓤) (run : Routine → Fun 𝓤)
+    (κ : Lft) (q : Share) (s : RefT (List ℕ)) (m : ℕ) (ok : m < 2 ^ 32) where
   abbrev κs : Lfts 1
   κs = (κ, tt)
 
@@ -166,7 +167,8 @@ module _ {M : Type 1} (𝓤 : URA M) (H : Heap 𝓤) (A : Atoms 𝓤) (W : Given
   place-typed b u is =
       LL.lawful B.the-type B′.the-laws 𝓤 H A W .typed b _ (subst (λ (vs : List Val). Is B.the-row b vs) (LL.tells B.the-type B′.the-laws b (u ∷ []) is) is) .0
 
-  module _ (C : Calls 𝓤 H) (Λ : Loops 𝓤 H) (fm : FmC 𝓤 H (W .laws) C) (known-opened : Triple 𝓤 (C #opened) (Place 𝓤 H A mem run)) (known-cut : Triple 𝓤 (C #cut) (Cut 𝓤 H A mem run)) where
+  module _ (C : Calls 𝓤 H) (Λ : Loops 𝓤 H) (fm : FmC 𝓤 H (W .laws) C)
+      (known-opened : Triple 𝓤 (C #opened) (Place 𝓤 H A mem run)) (known-cut : Triple 𝓤 (C #cut) (Cut 𝓤 H A mem run)) where
     -- Local i of nine, behind `front` things.
     abbrev at : ℕ → ℕ → ℕ
     at front i = local 9 front i

@@ -132,7 +132,8 @@ module _ {M : Type 1} (𝓤 : URA M) (H : Heap 𝓤) (A : Atoms 𝓤) (mem : Mem
     shows-row : Triple 𝓤 (C shown-def.name) Shows
     says-number : Triple 𝓤 (C opened-def.name) Says
 
-module _ {M : Type 1} (𝓤 : URA M) (H : Heap 𝓤) (A : Atoms 𝓤) (W : Given 𝓤 H A) (mem : Memory → SProp 𝓤) (run : Routine → Fun 𝓤) (κ : Lft) (q : Share) (s : RefT (List ℕ)) (m : ℕ) (ok : m < 2 ^ 32) where
+module _ {M : Type 1} (𝓤 : URA M) (H : Heap 𝓤) (A : Atoms 𝓤) (W : Given 𝓤 H A) (mem : Memory → SProp 𝓤) (run : Routine → Fun 𝓤)
+    (κ : Lft) (q : Share) (s : RefT (List ℕ)) (m : ℕ) (ok : m < 2 ^ 32) where
   abbrev κs : Lfts 1
   κs = (κ, tt)
 
@@ -281,7 +282,8 @@ module _ {M : Type 1} (𝓤 : URA M) (H : Heap 𝓤) (A : Atoms 𝓤) (W : Given
               peeks ! S.the-row (Is S.the-row) (shows 𝓤 H A S.the-row) t (u₇ ∷ []) (λ is₇.
               land ! (from ! (stop !)) (init ! (at 4 7) refl (EL.lawful S.the-type S′.the-laws 𝓤 H A W tt .typed t _ is₇ .0)) $
               use1 W (raw (Shows 𝓤 H A mem run .pre (to-shown t u₇))) (goes-shown t u₇) $
-              calls-at ! fm (Shows 𝓤 H A mem run) (known .shows-row) (to-shown t u₇) (and-then ! (load ! (from ! (stop !)) (look ! (at 4 7) refl)) (no-more !)) (λ u₆.
+              calls-at ! fm (Shows 𝓤 H A mem run) (known .shows-row) (to-shown t u₇)
+              (and-then ! (load ! (from ! (stop !)) (look ! (at 4 7) refl)) (no-more !)) (λ u₆.
               use1 W (later (some (λ (b : Bool). (‵ ftrue ⊛ ‵ (bool .own b (u₆ ∷ [])))
               ⊛ raw (ensured 𝓤 H A shown.ended (shown.clauses 𝓤 H A mem run) tt (t, tt) tt b)))) (id⊢ 𝓤 _) $ await ! tt $ pick ! (λ b.
               split ! $ move ! (1 ∷ []) $ use1 W (raw (fact 𝓤 (b ≡ isRow t))) (shown-said t b) $ heard ! (b ≡ isRow t) (λ is-row. split ! $ let-go ! $
