@@ -1,8 +1,8 @@
 -- What is printed upon a line: its text is the listing's. By the tests that the code makes, in the order of the refusals of a page that holds as
 -- many rows as were asked for: each situation of a page from the start applies exactly where its test says so.
 -- Assumes nothing.
-use mathlib.Core.Path.{_≡_, refl}
-use mathlib.Core.Bool.{Bool, true, false}
+use mathlib.Core.Path.{_≡_, refl, ap, _∙_}
+use mathlib.Core.Bool.{Bool, true, false, not}
 use mathlib.Core.List.{List}
 use Prim.Native.Nat.{ℕ, suc, _*_, _≤_, _<_}
 use native.Mathlib.Nat.{mul-le-mul-right, zero-mul}
@@ -10,7 +10,7 @@ use native.Mathlib.Omega.{arith}
 use lib.Dec.{eqb, ltb}
 use lib.ListN.{length, replicate, length-replicate}
 use borrow.Author.Tests.{le-ltb, lt-ltb, ltb-true, ltb-false, eqb-true, eqb-false}
-use Rattle.definitions.specs.Answers.{unless, refusalNumber}
+use Rattle.definitions.specs.Answers.{Situation, unless, refusalNumber}
 use Rattle.definitions.specs.Calls.{pageRequest, paging, positionSituations}
 use Rattle.definitions.specs.Generator.{lawfulDegree}
 use Rattle.definitions.specs.Listing.{answerText, largestSize, readLine, unreadable, listing}
@@ -23,7 +23,7 @@ use Rattle.definitions.specs.declared.Refusal.the-variants.{WrongDegree, WrongD
 use Rattle.definitions.specs.declared.Selection.{Selection}
 use Rattle.number_laws.specs.Truth.{by-test}
 use Rattle.number_laws.specs.Bounds.{lawfulDegree-is, lawfulTop-is}
-use Rattle.answer_laws.specs.Unless.{unless-map}
+use Rattle.answer_laws.specs.Unless.{Decides, here, later, passes, at-end, unless-refused, unless-given, unless-map}
 use Rattle.listing_parts.specs.Left.{textLeft, Underway}
 use Rattle.listing_parts.specs.declared.Printing.{Printing}
 use Rattle.listing_parts.specs.declared.Printing.the-variants.{Refused, Whole}
@@ -79,24 +79,41 @@ module _ (m top size : ℕ) where
   unfolding printingOf
   size-refused h = rw (lt-ltb largestSize size h, printingOf)
 
+  -- The situations of the page that is asked for, and the line of a refusal.
+  abbrev situations : List Situation
+  situations = paging (pageRequest (listOf m top) Start) (replicate (size * rowWidth (listOf m top)) 0)
+
+  abbrev refuse : Refusal → Printing
+  refuse n = Refused (refusalNumber n)
+
   module _ (h : size ≤ largestSize) where
+    by-situations : printingOf (Asked m top size) ≡ unless situations refuse (Whole (listOf m top) size)
+    unfolding printingOf
+    by-situations = rw (le-ltb largestSize size h, printingOf)
+
+    refused : {n : Refusal} → Decides n situations → printingOf (Asked m top size) ≡ refuse n
+    refused d = by-situations ∙ unless-refused refuse (Whole (listOf m top) size) d
+
     pub degree-refused : lawfulDegree m ≡ false → printingOf (Asked m top size) ≡ Refused (refusalNumber WrongDegree)
-    unfolding printingOf paging unless
-    degree-refused d = rw (le-ltb largestSize size h, printingOf, d)
+    unfolding paging
+    degree-refused d = refused (here (ap not d))
 
     module _ (d : lawfulDegree m ≡ true) where
       pub top-refused : lawfulTop top ≡ false → printingOf (Asked m top size) ≡ Refused (refusalNumber WrongDimension)
-      unfolding printingOf paging unless
-      top-refused t = rw (le-ltb largestSize size h, printingOf, d, t)
+      unfolding paging
+      top-refused t = refused (later (ap not d) (here (ap not t)))
 
       module _ (t : lawfulTop top ≡ true) where
         pub none-refused : size ≡ 0 → printingOf (Asked m top size) ≡ Refused (refusalNumber ShortSlice)
-        unfolding printingOf paging positionSituations unless
-        none-refused z = rw (le-ltb largestSize size h, printingOf, d, t, z, room-for-none top)
+        unfolding paging positionSituations
+        none-refused z = refused (later (ap not d) (later (ap not t) (here (rw z (room-for-none top)))))
 
         pub all-listed : 1 ≤ size → printingOf (Asked m top size) ≡ Whole (listOf m top) size
-        unfolding printingOf paging positionSituations unless
-        all-listed some = rw (le-ltb largestSize size h, printingOf, d, t, room-for-one top size some)
+        unfolding paging positionSituations
+        all-listed some =
+            by-situations
+            ∙ unless-given refuse (Whole (listOf m top) size)
+            (passes (ap not d) (passes (ap not t) (passes (room-for-one top size some) at-end)))
 
 -- What is printed upon a line is lawful.
 pub start-underway : (line : Line) → Underway (printingOf line)
