@@ -96,6 +96,11 @@ degrees-together = euclid-ind (λ p q. Falling p q → quotientDegrees p q + com
     (λ p f. omega (arith, quotientDegrees-zero p, commonDegree-zero p))
     (λ p q pos h f. omega (arith, quotientDegrees-more p q pos, commonDegree-more p q pos, quotient-difference f pos, h (falling-next p q pos)))
 
+largest-within : (p q : ℕ) → Falling p q → largest p q + commonDegree p q ≤ degree p
+largest-within = euclid-ind (λ p q. Falling p q → largest p q + commonDegree p q ≤ degree p)
+    (λ p f. omega (arith, largest-zero p, commonDegree-zero p))
+    (λ p q pos h f. omega (arith, largest-more p q pos, commonDegree-more p q pos, quotient-difference f pos, h (falling-next p q pos)))
+
 -- 1 has degree 0, and no other
 one-flat : degree 1 ≡ 0
 one-flat = degree-unique 1 0 (power-degree 0)
@@ -169,6 +174,9 @@ module _ {m p q : ℕ} (w : WellFormed m p q) where
 
   pub largest-least : 1 ≤ largest p q
   largest-least = largest-some wellFormed-falling (w .nonzero)
+
+  pub largest-most : largest p q + commonDegree p q ≤ m
+  largest-most = omega (arith, largest-within p q wellFormed-falling, degree-unique p m (w .degree-p))
 
   -- THE DEGREES OF THE QUOTIENTS AND OF THE COMMON FACTOR ADD UP TO m.
   pub degrees-sum : quotientDegrees p q + commonDegree p q ≡ m
