@@ -55,10 +55,10 @@ euclid-expansion (divided {p} {q} {a} {r} {l} pos e small w) =
 
 -- ---- the last divisor divides both
 
-record Divides (g p q : ℕ) : Type 0 where
-  positive : 0 < g
-  left : rem p g ≡ 0
-  right : rem q g ≡ 0
+pub record Divides (g p q : ℕ) : Type 0 where
+  pub positive : 0 < g
+  pub left : rem p g ≡ 0
+  pub right : rem q g ≡ 0
 
 -- from (q, r) with p = A q + r to (p, q)
 divides-step : (g a p q r : ℕ) → prod a q ⊕ r ≡ p → Divides g q r → Divides g p q
@@ -70,7 +70,7 @@ divides-step g a p q r whole h =
 divides-last : (p : ℕ) → 0 < p → Divides (expansion p 0 .common) p 0
 divides-last p pos = rw expansion-zero (record { positive = pos; left = rw one-prod at (rem-multiple p pos 1); right = rem-zero p })
 
-common-divides : (p q : ℕ) → 0 < p → Divides (expansion p q .common) p q
+pub common-divides : (p q : ℕ) → 0 < p → Divides (expansion p q .common) p q
 unfolding found
 common-divides = euclid-ind (λ p q. 0 < p → Divides (expansion p q .common) p q) divides-last (λ p q pos h some.
     rw (expansion-more p q pos) (divides-step _ (quot p q) p q (rem p q) (division q pos p) (h pos)))

@@ -1,0 +1,136 @@
+-- The t-value in dimension 2. The digit rows of coordinate 1 are x^i q mod p, so d of them over c powers of x are not free just where some b < 2^d but 0
+-- has b q mod p below 2^c. The least weight d + c of such is m + 2 less K, or less the common factor's degree and 1 where that is more. So t(2) is
+-- K - 1 or the common factor's degree, whichever is larger: K - 1 where there is no common factor, and 0 just where the quotients are linear.
+-- Assumes nothing.
+use mathlib.Core.Path.{_≡_, refl, sym, ap, _∙_}
+use mathlib.Core.Logic.{_↔_}
+use mathlib.Core.Bool.{true}
+use mathlib.Core.List.{List, [], _∷_}
+use Prim.Native.Nat.{ℕ, suc, _+_, _-_, _^_, _≤_, _<_, max}
+use native.Mathlib.Omega.{arith}
+use lib.ListN.{length}
+use lib.Pow.{pow-mono}
+use Rattle.definitions.specs.Polynomial.{_⊕_, degree, prod, power, quot, rem}
+use Rattle.definitions.specs.Generator.{linearQuotients}
+use Rattle.definitions.specs.Net.{tValue}
+use Rattle.number_laws.specs.Truth.{le-unless}
+use Rattle.polynomial_laws.specs.Sum.{⊕-sums}
+use Rattle.polynomial_laws.specs.Degree.{degree-unique}
+use Rattle.polynomial_laws.specs.Product.{⊕-prod}
+use Rattle.polynomial_laws.specs.Division.{division, rem-⊕, rem-unique}
+use Rattle.polynomial_laws.specs.Power.{power-one}
+use Rattle.polynomial_laws.specs.Additive.{Additive}
+use Rattle.fraction_laws.specs.WellFormed.{WellFormed}
+use Rattle.net_laws.specs.Cell.{Free}
+use Rattle.net_laws.specs.Net.{total}
+use Rattle.net_laws.specs.Point.{digitRow}
+use Rattle.net_laws.specs.Share.{shareRows, length-shareRows}
+use Rattle.net_laws.specs.Lightest.{Reach, reach-share, share-reach}
+use Rattle.net_laws.specs.Weight.{AllFree, Least, least-unique}
+use Rattle.net_laws.specs.TValue.{least-tValue, tValue-most}
+use Rattle.quotient_laws.specs.Largest.{largest, commonDegree, Falling, wellFormed-falling, largest-least, linear-largest}
+use Rattle.quotient_laws.specs.Approximation.{loss, Near, loss-some, near-some, near-bound, nearest}
+use Rattle.quotient_laws.specs.Relations.{valueRows, free-rows, rows-free}
+
+-- ---- d rows of coordinate 1
+
+-- b q mod p.
+multiple : ℕ → ℕ → ℕ → ℕ
+multiple p q b = rem (prod b (power q 1)) p
+
+multiple-is : (p q b : ℕ) → multiple p q b ≡ rem (prod b q) p
+unfolding multiple
+multiple-is p q b = rw power-one
+
+module _ (p q : ℕ) (f : Falling p q) where
+  multiple-additive : Additive (multiple p q)
+  unfolding multiple
+  multiple-additive a b = rw ⊕-prod (rem-⊕ p (f .some) (prod a (power q 1)) (prod b (power q 1)))
+
+  plane-rows : (d : ℕ) → shareRows (digitRow p q) 1 (d ∷ []) ≡ valueRows (multiple p q) d
+  unfolding shareRows digitRow multiple
+  plane-rows d = refl
+
+  -- what is below 2^c is near
+  multiple-near : (d c b : ℕ) → 0 < b → b < 2 ^ d → multiple p q b < 2 ^ c → Near p q d c
+  multiple-near d c b nonzero short small =
+      let a = quot (prod b q) p in
+      let value : prod b q ⊕ prod a p ≡ rem (prod b q) p = ap (λ z. z ⊕ prod a p) (sym (division p (f .some) (prod b q))) ∙ simp ⊕-sums in
+      record { b = b; a = a; nonzero = nonzero; short = short; small = rw value (omega (arith, multiple-is p q b)) }
+
+  near-multiple : (d c : ℕ) (n : Near p q d c) → c ≤ degree p → multiple p q (n .b) < 2 ^ c
+  near-multiple d c n low =
+      let value = prod (n .b) q ⊕ prod (n .a) p in
+      let whole : prod (n .a) p ⊕ value ≡ prod (n .b) q = simp ⊕-sums in
+      let e : rem (prod (n .b) q) p ≡ value =
+      ap (λ z. rem z p) (sym whole) ∙ rem-unique p (f .some) (n .a) value (omega (arith, n .small, pow-mono low)) in
+      omega (arith, multiple-is p q (n .b), n .small)
+
+  -- ---- the least weight
+  plane-free : (d c : ℕ) → d + c + loss p q < degree p + 2 → Free c (shareRows (digitRow p q) 1 (d ∷ []))
+  plane-free d c light =
+      rw (plane-rows d)
+      (free-rows (multiple p q) multiple-additive c d
+      (λ b nonzero short. le-unless (λ small. omega (arith, near-bound p q f d c (multiple-near d c b nonzero short small)))))
+
+  plane-lighter : (all : List ℕ) → Reach (digitRow p q) 1 0 [] all → (c : ℕ) → length all + c + loss p q < degree p + 2 → Free c all
+  unfolding total
+  plane-lighter all x c light = let share = reach-share (digitRow p q) x in rw (share .2) (go (share .0) (share .1) (share .2))
+    where
+      go : (ds : List ℕ) → length ds ≡ 1 → all ≡ shareRows (digitRow p q) 1 ds → Free c (shareRows (digitRow p q) 1 ds)
+      go [] len e = absurd (omega arith)
+      go (d ∷ []) len e = plane-free d c (omega (arith, ap length e, length-shareRows (digitRow p q) 1 (d ∷ [])))
+      go (d ∷ d₁ ∷ ds) len e = absurd (omega arith)
+
+  plane-some : (W : ℕ) → W + loss p q ≡ degree p + 2 → AllFree (digitRow p q) 1 W → ⊥
+  unfolding total
+  plane-some W e free =
+      let t = nearest p q f in
+      let n = t .near in
+      let low : t .c ≤ degree p = omega (arith, t .weight, near-some n, loss-some p q) in
+      let len = length-shareRows (digitRow p q) 1 (t .d ∷ []) in
+      let all : Free (t .c) (shareRows (digitRow p q) 1 (t .d ∷ [])) =
+      free _ (share-reach (digitRow p q) 1 (t .d ∷ []) refl) (t .c) (omega (arith, t .weight)) in
+      let large = rows-free (multiple p q) multiple-additive (t .c) (t .d) (rw plane-rows at all) (n .b) (n .nonzero) (n .short) in
+      omega (arith, near-multiple (t .d) (t .c) n low)
+
+  loss-most : loss p q ≤ degree p + 2
+  loss-most = omega (arith, nearest p q f .weight)
+
+-- ---- well-formed pairs
+
+module _ {m p q : ℕ} (w : WellFormed m p q) where
+  falls : Falling p q
+  falls = wellFormed-falling w
+
+  least-plane : Least (digitRow p q) m 1 (suc (suc m) - loss p q)
+  least-plane =
+      let e = degree-unique p m (w .degree-p) in
+      let fits = loss-most p q falls in
+      record {
+        most = omega (arith, loss-some p q);
+        lighter = λ all x c l. plane-lighter p q falls all x c (omega arith);
+        some = λ l. plane-some p q falls (suc (suc m) - loss p q) (omega arith);
+      }
+
+  loss-tValue : suc (tValue m p q 2) ≡ loss p q
+  loss-tValue =
+      let e = degree-unique p m (w .degree-p) in
+      let same = least-unique (digitRow p q) m 1 _ _ least-plane (least-tValue m p (w .degree-p) q 1) in
+      omega (arith, loss-most p q falls, tValue-most m p (w .degree-p) q 2)
+
+  -- t(2) IS K - 1 OR THE COMMON FACTOR'S DEGREE, whichever is larger:
+  pub tValue-plane : tValue m p q 2 ≡ max (largest p q - 1) (commonDegree p q)
+  unfolding loss
+  tValue-plane = omega (arith, loss-tValue, largest-least w)
+
+  -- K - 1 where there is no common factor,
+  pub tValue-largest : commonDegree p q ≡ 0 → tValue m p q 2 ≡ largest p q - 1
+  tValue-largest none = omega (arith, tValue-plane)
+
+  -- and 0 just where the quotients are linear.
+  pub tValue-linear : (linearQuotients p q ≡ true) ↔ (tValue m p q 2 ≡ 0)
+  tValue-linear = (
+    λ t. let h = linear-largest w .0 t in omega (arith, tValue-plane, h .0, h .1),
+    λ e. linear-largest w .1 (omega (arith, tValue-plane, largest-least w), omega (arith, tValue-plane)),
+  )
