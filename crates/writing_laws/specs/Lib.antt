@@ -1,0 +1,2 @@
+-- Laws of the catalogue that is made of ranked lists: how many rows a list has.
+pub mod Few
