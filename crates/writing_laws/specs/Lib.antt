@@ -1,2 +1,3 @@
--- Laws of the catalogue that is made of ranked lists: how many rows a list has.
+-- Laws of the catalogue that is made of ranked lists: how many rows a list has, and that each number fits its field.
 pub mod Few
+pub mod Fields
