@@ -61,12 +61,12 @@ map-same f [] h = refl
 map-same f (x ∷ l) h = ap₂ _∷_ (h x (List·Memᴰ·head refl)) (map-same f l (λ y i. h y (List·Memᴰ·tail i)))
 
 -- A member, by its index.
-record Indexed {X : Type 0} (d : X) (l : List X) (x : X) : Type 0 where
-  index : ℕ
-  below : index < length l
-  is : getD l index d ≡ x
+pub record Indexed {X : Type 0} (d : X) (l : List X) (x : X) : Type 0 where
+  pub index : ℕ
+  pub below : index < length l
+  pub is : getD l index d ≡ x
 
-indexed : {X : Type 0} (d : X) (l : List X) {x : X} → List·Memᴰ x l → Indexed d l x
+pub indexed : {X : Type 0} (d : X) (l : List X) {x : X} → List·Memᴰ x l → Indexed d l x
 indexed d (y ∷ l) (List·Memᴰ·head e) = record { index = 0; below = omega arith; is = sym e }
 indexed d (y ∷ l) (List·Memᴰ·tail i) = let r = indexed d l i in record { index = suc (r .index); below = omega (arith, r .below); is = r .is }
 
@@ -87,7 +87,7 @@ degree-member s zero i j h = absurd (omega arith)
 degree-member s (suc k) i zero h = List·Memᴰ·head refl
 degree-member s (suc k) i (suc j) h = List·Memᴰ·tail (degree-member s k (behindEntry s i) j (omega arith))
 
-lawful-member : {last : ℕ} {ls : List Listed} {l : Listed} → LawfulLists last ls → List·Memᴰ l ls → LawfulListed l
+pub lawful-member : {last : ℕ} {ls : List Listed} {l : Listed} → LawfulLists last ls → List·Memᴰ l ls → LawfulListed l
 lawful-member (more a h f) (List·Memᴰ·head e) = subst LawfulListed (sym e) h
 lawful-member (more a h f) (List·Memᴰ·tail i) = lawful-member f i
 

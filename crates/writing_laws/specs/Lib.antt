@@ -2,4 +2,5 @@
 pub mod Few
 pub mod Fields
 pub mod Held
+pub mod InBytes
 pub mod RankedFile

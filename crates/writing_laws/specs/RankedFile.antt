@@ -1,5 +1,5 @@
 -- The catalogue of ranked lists, from entries of a degree and T each. For lawful entries of ascending degrees it is of the form and holds, for each
--- entry in order, T and the ranked rows in order, and no other degree; its length is a sum over the entries. For its row count fits (`Few`) and each
+-- entry in order, T and the ranked rows in order, and no other degree; its length is a sum over the entries. For the row counts fit (`Few`) and each
 -- number fits its field (`Fields`), so the ranked lists are lawful, and a catalogue of lawful lists holds them (`Held`). Assumes nothing.
 use mathlib.Core.Path.{_≡_, refl, ap, _∙_}
 use mathlib.Core.Bool.{true}
@@ -23,6 +23,7 @@ use Rattle.catalogue_laws.specs.RoundTrip.{written-opens}
 use Rattle.writing_laws.specs.Few.{ranked-count-fits}
 use Rattle.writing_laws.specs.Fields.{ranked-lawful}
 use Rattle.writing_laws.specs.Held.{readBy, heldIn, numbers-held, rows-held, lists-held, others-missing}
+use Rattle.writing_laws.specs.InBytes.{InBytes, catalogue-bytes}
 
 -- The list that an entry asks for.
 unfoldable pub listOf : Selection → Listed
@@ -75,6 +76,7 @@ module _ (ls : List Selection) (h : LawfulEntries 0 ls) where
     unfolding rankedFile listOf
     file-rows = rows-held lists (lists-lawful h) (listOf l) (Memᴰ·map listOf i)
 
+  -- No other degree is found.
   pub file-missing : (m : ℕ) → lawfulDegree m ≡ true → ((l : Selection) → List·Memᴰ l ls → l .degree ≡ m → ⊥)
       → lookupNumbers (rankedFile ls) m ≡ NoBody DegreeMissing
   unfolding rankedFile listOf
@@ -110,8 +112,13 @@ module _ (ls : List Selection) (h : LawfulEntries 0 ls) where
   pub file-length : length (rankedFile ls) ≡ fileSize ls
   file-length = omega (arith, laid .ends, sizes firstEntry h)
 
+  -- So every offset fits its bytes.
   pub file-small : length (rankedFile ls) < 256 ^ offsetSize
   file-small = laid .small
+
+  pub file-bytes : InBytes (rankedFile ls)
+  unfolding rankedFile
+  file-bytes = catalogue-bytes (map listOf ls) (lists-lawful h)
 
 -- With no entry the file is the byte 0.
 pub file-none : rankedFile [] ≡ 0 ∷ []
