@@ -20,6 +20,7 @@ use Rattle.catalogue_laws.specs.Encoding.{Listed, bodyBytes, contentsBytes, beh
 use Rattle.catalogue_laws.specs.Rows.{rowOf}
 use Rattle.catalogue_laws.specs.Files.{LawfulListed, LawfulLists, none, more, Laid, bodiesBytes, body-length, catalogue-laid, catalogue-written}
 use Rattle.catalogue_laws.specs.RoundTrip.{written-opens}
+use Rattle.catalogue_laws.specs.Example.{printed, printed-bytes}
 use Rattle.writing_laws.specs.Few.{ranked-count-fits}
 use Rattle.writing_laws.specs.Fields.{ranked-lawful}
 use Rattle.writing_laws.specs.Held.{readBy, heldIn, numbers-held, rows-held, lists-held, others-missing}
@@ -124,3 +125,8 @@ module _ (ls : List Selection) (h : LawfulEntries 0 ls) where
 pub file-none : rankedFile [] ≡ 0 ∷ []
 unfolding rankedFile catalogueBytes contentsBytes
 file-none = refl
+
+-- Document 01's catalogue of 41 bytes.
+pub file-printed : rankedFile (record { degree = 3; top = 4 } ∷ []) ≡ printed
+unfolding rankedFile listOf
+file-printed = printed-bytes
