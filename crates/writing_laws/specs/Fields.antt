@@ -1,0 +1,55 @@
+-- Every number of a ranked row fits its field in a catalogue: p without its leading term, q and σ are below 2^m, each t-value is at most m, and the
+-- row is T + 1 numbers. p and q by the pair's form, σ because it is coprime to 2^m - 1, t by its definition. Assumes nothing.
+use mathlib.Core.Path.{_≡_, sym, ap, _∙_, subst}
+use mathlib.Core.List.{[], Memᴰ·of-map}
+use Prim.Native.Nat.{ℕ, suc, _+_, _-_, _≤_, _<_}
+use native.Mathlib.Nat.{pow-suc}
+use native.Mathlib.Omega.{arith}
+use lib.ListN.{getD}
+use lib.Seq.{getD-drop}
+use Rattle.definitions.specs.declared.Selection.{Selection}
+use Rattle.definitions.specs.Number.{numbers}
+use Rattle.definitions.specs.Net.{tValue}
+use Rattle.definitions.specs.Ranking.{leastTop, ranksFrom, tValues, row, ranked}
+use Rattle.number_laws.specs.Bounds.{LawfulDegree, LawfulTop}
+use Rattle.fraction_laws.specs.WellFormed.{WellFormed, wellFormed-is}
+use Rattle.order_laws.specs.Accepted.{Accepted, accepted-is, coprime-step}
+use Rattle.net_laws.specs.TValue.{tValue-most}
+use Rattle.page_laws.specs.Members.{getD-member}
+use Rattle.ranking_laws.specs.Met.{row-length, tValues-length}
+use Rattle.ranking_laws.specs.Ranked.{ranked-out}
+use Rattle.catalogue_laws.specs.Written.{LawfulRow, LawfulRows}
+
+-- Each t-value of a row is at most m.
+tValues-most : (m top p q : ℕ) → WellFormed m p q → (k : ℕ) → k < suc top - leastTop → getD (tValues m top p q) k 0 ≤ m
+unfolding tValues
+tValues-most m top p q w k h =
+    let member = getD-member 0 (tValues m top p q) k (omega (arith, tValues-length m top p q)) in
+    let of = Memᴰ·of-map (tValue m p q) (numbers leastTop (suc top - leastTop)) member in
+    omega (arith, of .2, tValue-most m p (w .degree-p) q (of .0))
+
+module _ (l : Selection) (degree : LawfulDegree (l .degree)) (top : LawfulTop (l .top)) where
+  row-lawful : (p q : ℕ) → WellFormed (l .degree) p q → Accepted (l .degree) p q → LawfulRow (l .degree) (l .top) (row l p q)
+  unfolding row
+  row-lawful p q w a =
+      let step = coprime-step (l .degree) p q (degree .low) (a .coprime) in
+      record {
+        width = row-length l p q (top .low);
+        p-least = w .degree-p .least;
+        p-most = omega (arith, w .degree-p .most, pow-suc 2 (l .degree));
+        q-most = w .smaller;
+        step-most = omega (arith, step .below);
+        t-most = λ s least most.
+            let e : s ≡ ranksFrom + (s - ranksFrom) = omega arith in
+            let at : getD (row l p q) s 0 ≡ getD (tValues (l .degree) (l .top) p q) (s - ranksFrom) 0 =
+            ap (λ (n : ℕ). getD (row l p q) n 0) e ∙ sym (getD-drop ranksFrom (row l p q) (s - ranksFrom) 0) in
+            omega (arith, at, tValues-most (l .degree) (l .top) p q w (s - ranksFrom) (omega arith));
+      }
+
+  pub ranked-lawful : LawfulRows (l .degree) (l .top) (ranked l)
+  ranked-lawful k h =
+      let r = ranked-out l (getD (ranked l) k []) (getD-member [] (ranked l) k h) in
+      let m = l .degree in
+      let p = r .pair .p in
+      let q = r .pair .q in
+      subst (LawfulRow m (l .top)) (r .is) (row-lawful p q (wellFormed-is m p q .0 (r .well-formed)) (accepted-is m p q .0 (r .passes)))

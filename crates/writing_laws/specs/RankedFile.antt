@@ -1,0 +1,132 @@
+-- The catalogue of ranked lists, from entries of a degree and T each. For lawful entries of ascending degrees it is of the form and holds, for each
+-- entry in order, T and the ranked rows in order, and no other degree; its length is a sum over the entries. For the row counts fit (`Few`) and each
+-- number fits its field (`Fields`), so the ranked lists are lawful, and a catalogue of lawful lists holds them (`Held`). Assumes nothing.
+use mathlib.Core.Path.{_≡_, refl, ap, _∙_}
+use mathlib.Core.Bool.{true}
+use mathlib.Core.List.{List, [], _∷_, _++_, map, List·Memᴰ, Memᴰ·map, Memᴰ·of-map}
+use Prim.Native.Nat.{ℕ, _+_, _*_, _^_, _<_}
+use native.Mathlib.Omega.{arith}
+use lib.ListN.{length, replicate, length-append, length-map}
+use Rattle.definitions.specs.declared.Selection.{Selection}
+use Rattle.definitions.specs.Generator.{lawfulDegree}
+use Rattle.definitions.specs.Ranking.{ranked}
+use Rattle.definitions.specs.Catalogue.{offsetSize, entrySize, rowSize, firstEntry, catalogueForm, opening, lookupNumbers}
+use Rattle.definitions.specs.declared.NextRow.the-variants.{Found, End}
+use Rattle.definitions.specs.declared.Opening.the-variants.{Entries}
+use Rattle.definitions.specs.declared.Lookup.the-variants.{Body, NoBody}
+use Rattle.definitions.specs.declared.Refusal.the-variants.{DegreeMissing}
+use Rattle.number_laws.specs.Bounds.{LawfulDegree, LawfulTop}
+use Rattle.catalogue_laws.specs.Encoding.{Listed, bodyBytes, contentsBytes, behindLists, catalogueBytes}
+use Rattle.catalogue_laws.specs.Rows.{rowOf}
+use Rattle.catalogue_laws.specs.Files.{LawfulListed, LawfulLists, none, more, Laid, bodiesBytes, body-length, catalogue-laid, catalogue-written}
+use Rattle.catalogue_laws.specs.RoundTrip.{written-opens}
+use Rattle.catalogue_laws.specs.Example.{printed, printed-bytes}
+use Rattle.writing_laws.specs.Few.{ranked-count-fits}
+use Rattle.writing_laws.specs.Fields.{ranked-lawful}
+use Rattle.writing_laws.specs.Held.{readBy, heldIn, numbers-held, rows-held, lists-held, others-missing}
+use Rattle.writing_laws.specs.InBytes.{InBytes, catalogue-bytes}
+
+-- The list that an entry asks for.
+unfoldable pub listOf : Selection → Listed
+listOf l = record { degree = l .degree; top = l .top; rows = ranked l }
+
+unfoldable pub rankedFile : List Selection → List ℕ
+rankedFile ls = catalogueBytes (map listOf ls)
+
+-- Lawful entries of ascending degrees, behind the degree `last`.
+pub data LawfulEntries : ℕ → List Selection → Type 0 where
+  ends : {last : ℕ} → LawfulEntries last []
+  next : {last : ℕ} {l : Selection} {ls : List Selection} → last < l .degree → LawfulDegree (l .degree) → LawfulTop (l .top)
+      → LawfulEntries (l .degree) ls → LawfulEntries last (l ∷ ls)
+
+pub list-lawful : (l : Selection) → LawfulDegree (l .degree) → LawfulTop (l .top) → LawfulListed (listOf l)
+unfolding listOf
+list-lawful l d t = record { lawful-degree = d; lawful-top = t; few = ranked-count-fits l d; each = ranked-lawful l d t }
+
+pub lists-lawful : {last : ℕ} {ls : List Selection} → LawfulEntries last ls → LawfulLists last (map listOf ls)
+unfolding listOf
+lists-lawful ends = none
+lists-lawful (next {l = l} a d t f) = more a (list-lawful l d t) (lists-lawful f)
+
+-- ---- read back
+
+module _ (ls : List Selection) (h : LawfulEntries 0 ls) where
+  abbrev lists : List Listed
+  lists = map listOf ls
+
+  pub file-form : catalogueForm (rankedFile ls) ≡ true
+  unfolding rankedFile
+  file-form = catalogue-written lists (lists-lawful h)
+
+  pub file-opens : opening (rankedFile ls) ≡ Entries (length ls)
+  unfolding rankedFile
+  file-opens = written-opens lists (lists-lawful h) ∙ ap Entries (length-map ls listOf)
+
+  -- ROUND TRIP: the same degrees, T and rows, in order.
+  pub file-held : heldIn (rankedFile ls) ≡ map listOf ls
+  unfolding rankedFile
+  file-held = lists-held lists (lists-lawful h)
+
+  -- The same of one degree, by a lookup and by a reader.
+  module _ (l : Selection) (i : List·Memᴰ l ls) where
+    pub file-numbers : lookupNumbers (rankedFile ls) (l .degree) ≡ Body (l .top) (length (ranked l))
+    unfolding rankedFile listOf
+    file-numbers = numbers-held lists (lists-lawful h) (listOf l) (Memᴰ·map listOf i)
+
+    pub file-rows : (n : ℕ) → readBy (rankedFile ls) (l .degree) (length (ranked l) + n) ≡ map (λ (r : List ℕ). Found (rowOf r)) (ranked l) ++ replicate n End
+    unfolding rankedFile listOf
+    file-rows = rows-held lists (lists-lawful h) (listOf l) (Memᴰ·map listOf i)
+
+  -- No other degree is found.
+  pub file-missing : (m : ℕ) → lawfulDegree m ≡ true → ((l : Selection) → List·Memᴰ l ls → l .degree ≡ m → ⊥)
+      → lookupNumbers (rankedFile ls) m ≡ NoBody DegreeMissing
+  unfolding rankedFile listOf
+  file-missing m d other =
+      others-missing lists (lists-lawful h) m d
+      (λ x i e. let of = Memᴰ·of-map listOf ls i in other (of .0) (of .1) (ap (λ (y : Listed). y .degree) (of .2) ∙ e))
+
+-- ---- the length
+
+-- The bytes of an entry and of its body.
+unfoldable pub listSize : Selection → ℕ
+listSize l = entrySize (l .degree) + length (ranked l) * rowSize (l .degree) (l .top)
+
+-- The first byte, and these of each entry.
+unfoldable pub fileSize : List Selection → ℕ
+fileSize [] = firstEntry
+fileSize (l ∷ ls) = listSize l + fileSize ls
+
+-- The entries from place i on and the bodies.
+sizes : {last : ℕ} {ls : List Selection} (i : ℕ) → LawfulEntries last ls
+    → behindLists (map listOf ls) i + length (bodiesBytes (map listOf ls)) + firstEntry ≡ i + fileSize ls
+unfolding behindLists fileSize listSize listOf
+sizes i ends = omega arith
+sizes {ls = l ∷ ls} i (next a d t f) =
+    let body = body-length (listOf l) (list-lawful l d t) in
+    omega (arith, sizes (i + entrySize (l .degree)) f, length-append (bodyBytes (listOf l)) (bodiesBytes (map listOf ls)))
+
+module _ (ls : List Selection) (h : LawfulEntries 0 ls) where
+  laid : Laid (rankedFile ls) (map listOf ls) firstEntry (behindLists (map listOf ls) firstEntry)
+  unfolding rankedFile
+  laid = catalogue-laid (map listOf ls) (lists-lawful h)
+
+  pub file-length : length (rankedFile ls) ≡ fileSize ls
+  file-length = omega (arith, laid .ends, sizes firstEntry h)
+
+  -- So every offset fits its bytes.
+  pub file-small : length (rankedFile ls) < 256 ^ offsetSize
+  file-small = laid .small
+
+  pub file-bytes : InBytes (rankedFile ls)
+  unfolding rankedFile
+  file-bytes = catalogue-bytes (map listOf ls) (lists-lawful h)
+
+-- With no entry the file is the byte 0.
+pub file-none : rankedFile [] ≡ 0 ∷ []
+unfolding rankedFile catalogueBytes contentsBytes
+file-none = refl
+
+-- Document 01's catalogue of 41 bytes.
+pub file-printed : rankedFile (record { degree = 3; top = 4 } ∷ []) ≡ printed
+unfolding rankedFile listOf
+file-printed = printed-bytes
