@@ -18,7 +18,7 @@ abbrev pub entryNumber : List ℕ → ℕ → Entry
 entryNumber s k = entryAt s (behindEntries s k firstEntry)
 
 -- An entry of the file has the degree.
-pub record HasDegree (s : List ℕ) (m : ℕ) : Type 0 where
+pub record HasEntry (s : List ℕ) (m : ℕ) : Type 0 where
   pub index : ℕ
   pub listed : index < byteAt s 0
   pub degree-is : entryNumber s index .degree ≡ m
@@ -79,7 +79,7 @@ search-ends s m (suc k) i = go (eqb (byteAt s i) m) refl (search-ends s m k (beh
 module _ (s : List ℕ) (m : ℕ) where
   -- What is found is an entry of the file that has the degree.
   pub record FoundAmong : Type 0 where
-    pub has : HasDegree s m
+    pub has : HasEntry s m
     pub entry-is : entryAt s (entryOf s m) ≡ entryNumber s (has .index)
 
   abbrev whole : FindsEntry s m (byteAt s 0) firstEntry ⊎ FindsNone s m (byteAt s 0) firstEntry
@@ -99,13 +99,13 @@ module _ (s : List ℕ) (m : ℕ) where
       go (inr f) = absurd (n (entry-of s m ∙ f .missing))
 
   -- MISSING: nothing is found exactly where no entry of the file has the degree.
-  pub missing-exactly : (entryOf s m ≡ 0) ↔ (HasDegree s m → ⊥)
+  pub missing-exactly : (entryOf s m ≡ 0) ↔ (HasEntry s m → ⊥)
   missing-exactly = (to whole, from whole)
     where
-      to : FindsEntry s m (byteAt s 0) firstEntry ⊎ FindsNone s m (byteAt s 0) firstEntry → entryOf s m ≡ 0 → HasDegree s m → ⊥
+      to : FindsEntry s m (byteAt s 0) firstEntry ⊎ FindsNone s m (byteAt s 0) firstEntry → entryOf s m ≡ 0 → HasEntry s m → ⊥
       to (inl f) e h = omega (arith, e, entry-of s m, f .found, behind-least s (f .index) firstEntry)
       to (inr f) e h = f .none (h .index) (h .listed) (sym (entry-at-degree s _) ∙ h .degree-is)
 
-      from : FindsEntry s m (byteAt s 0) firstEntry ⊎ FindsNone s m (byteAt s 0) firstEntry → (HasDegree s m → ⊥) → entryOf s m ≡ 0
+      from : FindsEntry s m (byteAt s 0) firstEntry ⊎ FindsNone s m (byteAt s 0) firstEntry → (HasEntry s m → ⊥) → entryOf s m ≡ 0
       from (inl f) h = absurd (h (found-among f .has))
       from (inr f) h = entry-of s m ∙ f .missing

@@ -52,6 +52,11 @@ module _ (m : ℕ) where
   unfolding countSize
   count-size-most = omega arith
 
+  -- A number below 2^m fits the bytes of a row count.
+  pub count-fits : LawfulDegree m → 2 ^ m ≤ 256 ^ countSize m
+  unfolding countSize
+  count-fits h = pow-mono {i = m} {j = largestDegree} (h .high)
+
   pub count-most : 256 ^ countSize m ≤ rowCounts
   unfolding countSize
   count-most = omega arith

@@ -10,13 +10,13 @@ use borrow.Author.Tests.{eqb-true, eq-eqb, not-false}
 use Rattle.definitions.specs.Answers.{refusalNumber, lookupValues}
 use Rattle.definitions.specs.Generator.{lawfulDegree}
 use Rattle.definitions.specs.Catalogue.{catalogueForm, entryOf, looking, lookupNumbers, readerRefusal}
-use Rattle.catalogue_laws.specs.Missing.{HasDegree, missing-exactly}
+use Rattle.catalogue_laws.specs.Missing.{HasEntry, missing-exactly}
 use Rattle.demands.specs.Situations.{applies, FirstToApply}
 use Rattle.demands.specs.Demand1.{Exact, numberOf, exact, looking-exact}
 
 module _ (s : List ℕ) (m : ℕ) where
   -- Situation 10 applies exactly where no entry of the file has the degree,
-  pub missing-applies : (applies (looking s m) 10 ≡ true) ↔ (HasDegree s m → ⊥)
+  pub missing-applies : (applies (looking s m) 10 ≡ true) ↔ (HasEntry s m → ⊥)
   unfolding looking applies
   missing-applies = (
     λ e. missing-exactly s m .0 (eqb-true (entryOf s m) 0 e),
@@ -27,7 +27,7 @@ module _ (s : List ℕ) (m : ℕ) where
   pub record WithoutDegree : Type 0 where
     pub lawful-degree : lawfulDegree m ≡ true
     pub form : catalogueForm s ≡ true
-    pub none : HasDegree s m → ⊥
+    pub none : HasEntry s m → ⊥
 
   without-first : WithoutDegree → FirstToApply (looking s m) 10
   unfolding looking applies

@@ -23,8 +23,8 @@ use Rattle.page_laws.specs.Ascending.{Ascends}
 use Rattle.page_laws.specs.Rows.{rowsOf}
 use Rattle.ranking_laws.specs.Met.{ruleOf}
 use Rattle.ranking_laws.specs.Ranked.{RankedRow, ranked-is, ranked-ascends, ranked-once, ranked-in, ranked-out}
-use Rattle.ranking_laws.specs.Reading.{afterLast, Reached, reached-start, reached-front, reached-few}
-use Rattle.ranking_laws.specs.Session.{page-reached, page-goes-on, page-ends}
+use Rattle.ranking_laws.specs.Reading.{afterLast, ComeTo, come-to-start, come-to-front, come-to-few}
+use Rattle.ranking_laws.specs.Session.{page-answered, page-goes-on, page-ends}
 
 -- The rows of a selected list: strictly ascending by the key, and a row is among them exactly where its pair is accepted; so each once.
 pub record WholeList (l : Selection) (rows : List (List ℕ)) : Type 0 where
@@ -130,20 +130,20 @@ bit-either false = inl refl
 
 module _ (l : Selection) (degree : lawfulDegree (l .degree) ≡ true) (dimension : lawfulTop (l .top) ≡ true) where
   -- What a call says at a position that a walk has come to.
-  module _ {at : Position} {ps : Received} (r : Reached (ruleOf l) at ps) {s left : List ℕ} {x n more : ℕ} (room : rowWidth l ≤ length s)
+  module _ {at : Position} {ps : Received} (r : ComeTo (ruleOf l) at ps) {s left : List ℕ} {x n more : ℕ} (room : rowWidth l ≤ length s)
       (d : DefinedPage l at s x n more left) where
     no-refusal : x ≡ 0
-    no-refusal = rw (page-reached l degree dimension r s room) at (d .refusal-is)
+    no-refusal = rw (page-answered l degree dimension r s room) at (d .refusal-is)
 
     count-told : n ≡ length (pageRows (pageRequest l at) s)
-    count-told = rw (page-reached l degree dimension r s room) at (d .count-is)
+    count-told = rw (page-answered l degree dimension r s room) at (d .count-is)
 
     more-told : more ≡ bit (furtherRow (pageRequest l at) s)
-    more-told = rw (page-reached l degree dimension r s room) at (d .more-is)
+    more-told = rw (page-answered l degree dimension r s room) at (d .more-is)
 
   module _ {call : PageCall} (f : Faithful l call) where
-    come-to : {at : Position} {ps : Received} → Walked (rowWidth l) call at ps → Reached (ruleOf l) at ps
-    come-to begun = reached-start (ruleOf l)
+    come-to : {at : Position} {ps : Received} → Walked (rowWidth l) call at ps → ComeTo (ruleOf l) at ps
+    come-to begun = come-to-start (ruleOf l)
     come-to (more-follows {at = at} {s = s} {left = left} {n = n} w room c) =
         let r = come-to w in
         let d = f at s 0 n 1 left c in
@@ -161,8 +161,8 @@ module _ (l : Selection) (degree : lawfulDegree (l .degree) ≡ true) (dimension
           let r = come-to w in
           let d = f at s x n more left c in
           (no-refusal r room d, rw (more-told r room d) (bit-either (furtherRow (pageRequest l at) s)));
-      ends = λ w. rw ranked-is (reached-few (ruleOf l) (come-to w));
-      front = λ w. rw ranked-is (reached-front (ruleOf l) (come-to w));
+      ends = λ w. rw ranked-is (come-to-few (ruleOf l) (come-to w));
+      front = λ w. rw ranked-is (come-to-front (ruleOf l) (come-to w));
       whole = come-whole;
     }
 

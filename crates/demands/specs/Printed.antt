@@ -13,7 +13,7 @@ use Rattle.definitions.specs.Listing.{readLine, lineValues, listing}
 use Rattle.listing_rows.specs.Room.{stepRoom}
 use Rattle.listing_parts.specs.Left.{textLeft, Underway, rowRoom}
 use Rattle.listing_parts.specs.Decision.{start-text, start-underway}
-use Rattle.listing_parts.specs.Parts.{goesOn, partText, behindPart, fitting, part-left, part-underway, part-some, nothing-left, fitting-some, put-part}
+use Rattle.listing_parts.specs.Parts.{goesOn, partText, behindPart, rowsThatFit, part-left, part-underway, part-some, nothing-left, rowsThatFit-some, put-part}
 use Rattle.listing_parts.specs.declared.Printing.{Printing}
 use Rattle.listing.proofs.read_line.Reads as read-line
 use Rattle.listing_parts.proofs.start.Reads as start
@@ -36,7 +36,7 @@ module _ (input : List ℕ) where
   prints-underway : {n : ℕ} {done : List ℕ} {at : Printing} → Prints input n done at → Underway at
   prints-underway (begins κs line e i h) = rw h (start-underway (readLine (now line)))
   prints-underway (goes-on {at = at} w g κs rows text r e room bytes h) =
-      rw (h .0) (part-underway (fitting at (now rows) (now text)) at (prints-underway w))
+      rw (h .0) (part-underway (rowsThatFit at (now rows) (now text)) at (prints-underway w))
 
   -- so that the next call may be made, whatever slices that hold a row it brings.
   pub prints-may-go-on : {n : ℕ} {done : List ℕ} {at : Printing} → Prints input n done at
@@ -47,7 +47,7 @@ module _ (input : List ℕ) where
   pub prints-so-far : {n : ℕ} {done : List ℕ} {at : Printing} → Prints input n done at → done ++ textLeft at ≡ listing input
   prints-so-far (begins κs line e i h) = rw (h, i) (start-text input)
   prints-so-far (goes-on {done = done} {at = at} w g κs rows text r e room bytes h) =
-      let k = fitting at (now rows) (now text) in
+      let k = rowsThatFit at (now rows) (now text) in
       let part : take (r .bytes) (now (third e)) ≡ partText k at = put-part k at (now text) (h .0) (h .1 .1) .1 in
       let behind : textLeft (r .next) ≡ textLeft (behindPart k at) = rw (h .0) in
       rw (part, behind, append-assoc done (partText k at) (textLeft (behindPart k at)), ← part-left k at (prints-underway w)) (prints-so-far w)
@@ -56,9 +56,9 @@ module _ (input : List ℕ) where
   pub prints-few : {n : ℕ} {done : List ℕ} {at : Printing} → Prints input n done at → n ≤ length done
   prints-few (begins κs line e i h) = omega arith
   prints-few (goes-on {done = done} {at = at} w g κs rows text r e room bytes h) =
-      let k = fitting at (now rows) (now text) in
+      let k = rowsThatFit at (now rows) (now text) in
       let part : take (r .bytes) (now (third e)) ≡ partText k at = put-part k at (now text) (h .0) (h .1 .1) .1 in
-      let some = part-some k at (fitting-some at (now rows) (now text) room bytes) g in
+      let some = part-some k at (rowsThatFit-some at (now rows) (now text) room bytes) g in
       rw (part, length-append done (partText k at)) (omega (arith, prints-few w))
 
   pub prints-end : {n : ℕ} {done : List ℕ} {at : Printing} → Prints input n done at → n ≤ length (listing input)

@@ -8,7 +8,7 @@ use lib.ListN.{length}
 use Rattle.definitions.specs.Number.{over}
 use Rattle.slice_laws.specs.Over.{over-nothing}
 use Rattle.slice_laws.specs.Place.{placed, behind, placed-fits, behind-fits}
-use Rattle.listing_parts.specs.Parts.{partRows, partText, behindPart, goesOn, partOf, fitting, partAt, rowsAfter, textAfter}
+use Rattle.listing_parts.specs.Parts.{partRows, partText, behindPart, goesOn, nextPart, rowsThatFit, partAt, rowsAfter, textAfter}
 use Rattle.listing_parts.specs.declared.Printing.{Printing}
 use Rattle.listing_parts.specs.declared.parts.Part.{Part}
 
@@ -19,13 +19,13 @@ put-front text out h e k =
     (e ∙ behind-fits 0 text out room ∙ zero-add (length text), k ∙ placed-fits 0 text out room)
 
 pub part-is : (k : ℕ) (at : Printing) {bytes : ℕ} {next : Printing} → bytes ≡ length (partText k at) → next ≡ behindPart k at
-    → _≡_ {A = Part} (record { bytes = bytes; more = goesOn next; next = next }) (partOf k at)
+    → _≡_ {A = Part} (record { bytes = bytes; more = goesOn next; next = next }) (nextPart k at)
 part-is k at e f = λ i. record { bytes = e i; more = goesOn (f i); next = f i }
 
 -- A part that is one line, or nothing: the slice of numbers stays.
 module _ (at : Printing) (s text : List ℕ) where
-  pub line-part : {bytes : ℕ} {next : Printing} {exit : List ℕ} → partRows (fitting at s text) at ≡ [] → bytes ≡ length (partText (fitting at s text) at)
-      → next ≡ behindPart (fitting at s text) at → exit ≡ over 0 (partText (fitting at s text) at) text
+  pub line-part : {bytes : ℕ} {next : Printing} {exit : List ℕ} → partRows (rowsThatFit at s text) at ≡ [] → bytes ≡ length (partText (rowsThatFit at s text) at)
+      → next ≡ behindPart (rowsThatFit at s text) at → exit ≡ over 0 (partText (rowsThatFit at s text) at) text
       → (_≡_ {A = Part} (record { bytes = bytes; more = goesOn next; next = next }) (partAt at s text))
       × ((s ≡ rowsAfter at s text) × (exit ≡ textAfter at s text))
-  line-part none e f put = (part-is (fitting at s text) at e f, (rw none (sym (over-nothing 0 s)), put))
+  line-part none e f put = (part-is (rowsThatFit at s text) at e f, (rw none (sym (over-nothing 0 s)), put))

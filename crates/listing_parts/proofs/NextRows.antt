@@ -18,7 +18,7 @@ use Rattle.cursor.specs.declared.reading.Portion.{Portion}
 use Rattle.listing_rows.specs.Printed.{some, rowsText}
 use Rattle.listing_rows.specs.Room.{stepRoom, empty-page}
 use Rattle.listing_parts.specs.Left.{OnWay}
-use Rattle.listing_parts.specs.Parts.{rowsPart, partRows, partText, behindRows, behindPart, partOf}
+use Rattle.listing_parts.specs.Parts.{rowsPart, partRows, partText, behindRows, behindPart, nextPart}
 use Rattle.listing_parts.specs.declared.Printing.{Printing}
 use Rattle.listing_parts.specs.declared.Printing.the-variants.{Rows, Total}
 use Rattle.listing_parts.specs.declared.parts.Part.{Part}
@@ -84,7 +84,7 @@ module _ (c : Cursor) (size done k : ℕ) where
     -- The call's answer, and the two slices, from what is put into the text.
     module _ (fits : 1 ≤ k) (on : OnWay c size done) (text : List ℕ) {b : ℕ} {exit : List ℕ} where
       pub next-none : r .rows ≡ 0 → stepRoom ≤ length text → b ≡ behind 0 (pageText 1 0 false) text → exit ≡ placed 0 (pageText 1 0 false) text
-          → (_≡_ {A = Part} (record { bytes = b; more = true; next = Total done }) (partOf k at))
+          → (_≡_ {A = Part} (record { bytes = b; more = true; next = Total done }) (nextPart k at))
           × ((t ≡ over 0 (join (partRows k at)) s) × (exit ≡ over 0 (partText k at) text))
       next-none z room e f =
           let none : left c ≡ [] = nothing (left c) (omega (arith, h .count)) in
@@ -108,7 +108,7 @@ module _ (c : Cursor) (size done k : ℕ) where
         rows-count = h .count ∙ sym (length-take k (left c))
 
         pub next-more : r .more ≡ true
-            → (_≡_ {A = Part} (record { bytes = b; more = true; next = Rows (r .next) size (done + r .rows) }) (partOf k at))
+            → (_≡_ {A = Part} (record { bytes = b; more = true; next = Rows (r .next) size (done + r .rows) }) (nextPart k at))
             × ((t ≡ over 0 (join (partRows k at)) s) × (exit ≡ over 0 (partText k at) text))
         next-more m =
             let next : Rows (r .next) size (done + r .rows) ≡ behindPart k at =
@@ -116,7 +116,7 @@ module _ (c : Cursor) (size done k : ℕ) where
             (part-is k at (bytes ∙ ap length text-is) next, (h .written, put ∙ ap (λ (l : List ℕ). over 0 l text) text-is))
 
         pub next-end : r .more ≡ false
-            → (_≡_ {A = Part} (record { bytes = b; more = true; next = Total (done + r .rows) }) (partOf k at))
+            → (_≡_ {A = Part} (record { bytes = b; more = true; next = Total (done + r .rows) }) (nextPart k at))
             × ((t ≡ over 0 (join (partRows k at)) s) × (exit ≡ over 0 (partText k at) text))
         next-end m =
             let next : Total (done + r .rows) ≡ behindPart k at =

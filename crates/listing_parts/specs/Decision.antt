@@ -29,14 +29,14 @@ use Rattle.listing_parts.specs.declared.Printing.{Printing}
 use Rattle.listing_parts.specs.declared.Printing.the-variants.{Refused, Whole}
 
 -- The list that is asked for.
-abbrev pub listOf : ℕ → ℕ → Selection
-listOf m top = record { degree = m; top = top }
+abbrev pub askedList : ℕ → ℕ → Selection
+askedList m top = record { degree = m; top = top }
 
 -- What is printed: an unreadable line or a page size above 1000 first, then the refusals of a page that holds `size` rows, then the list.
 unfoldable pub printingOf : Line → Printing
 printingOf Unreadable = Refused unreadable
 printingOf (Asked m top size) =
-    let l : Selection = listOf m top in
+    let l : Selection = askedList m top in
     elim (ltb largestSize size) [
       | true ↦ Refused unreadable
       | false ↦ unless (paging (pageRequest l Start) (replicate (size * rowWidth l) 0)) (λ (n : Refusal). Refused (refusalNumber n)) (Whole l size)
@@ -51,7 +51,7 @@ printing-text (Asked m top size) = go (ltb largestSize size) refl
     go : (b : Bool) → ltb largestSize size ≡ b → textLeft (printingOf (Asked m top size)) ≡ answerText (Asked m top size)
     go true e = rw (e, printingOf, answerText)
     go false e =
-        let l = listOf m top in
+        let l = askedList m top in
         rw (e, printingOf, answerText)
         (unless-map textLeft (paging (pageRequest l Start) (replicate (size * rowWidth l) 0)) (λ (n : Refusal). Refused (refusalNumber n)) (Whole l size))
 
@@ -81,18 +81,18 @@ module _ (m top size : ℕ) where
 
   -- The situations of the page that is asked for, and the line of a refusal.
   abbrev situations : List Situation
-  situations = paging (pageRequest (listOf m top) Start) (replicate (size * rowWidth (listOf m top)) 0)
+  situations = paging (pageRequest (askedList m top) Start) (replicate (size * rowWidth (askedList m top)) 0)
 
   abbrev refuse : Refusal → Printing
   refuse n = Refused (refusalNumber n)
 
   module _ (h : size ≤ largestSize) where
-    by-situations : printingOf (Asked m top size) ≡ unless situations refuse (Whole (listOf m top) size)
+    by-situations : printingOf (Asked m top size) ≡ unless situations refuse (Whole (askedList m top) size)
     unfolding printingOf
     by-situations = rw (le-ltb largestSize size h, printingOf)
 
     refused : {n : Refusal} → Decides n situations → printingOf (Asked m top size) ≡ refuse n
-    refused d = by-situations ∙ unless-refused refuse (Whole (listOf m top) size) d
+    refused d = by-situations ∙ unless-refused refuse (Whole (askedList m top) size) d
 
     pub degree-refused : lawfulDegree m ≡ false → printingOf (Asked m top size) ≡ Refused (refusalNumber WrongDegree)
     unfolding paging
@@ -108,11 +108,11 @@ module _ (m top size : ℕ) where
         unfolding paging positionSituations
         none-refused z = refused (later (ap not d) (later (ap not t) (here (rw z (room-for-none top)))))
 
-        pub all-listed : 1 ≤ size → printingOf (Asked m top size) ≡ Whole (listOf m top) size
+        pub all-listed : 1 ≤ size → printingOf (Asked m top size) ≡ Whole (askedList m top) size
         unfolding paging positionSituations
         all-listed some =
             by-situations
-            ∙ unless-given refuse (Whole (listOf m top) size)
+            ∙ unless-given refuse (Whole (askedList m top) size)
             (passes (ap not d) (passes (ap not t) (passes (room-for-one top size some) at-end)))
 
 -- What is printed upon a line is lawful.

@@ -66,21 +66,21 @@ goesOn (Rows c size done) = true
 goesOn (Total n) = true
 goesOn Nothing = false
 
-abbrev pub partOf : ℕ → Printing → Part
-partOf k at = record { bytes = length (partText k at); more = goesOn (behindPart k at); next = behindPart k at }
+abbrev pub nextPart : ℕ → Printing → Part
+nextPart k at = record { bytes = length (partText k at); more = goesOn (behindPart k at); next = behindPart k at }
 
 -- How many rows fit the slices s of numbers and t of bytes; the answer to a call with them, and what they hold then.
-abbrev pub fitting : Printing → List ℕ → List ℕ → ℕ
-fitting at s t = min (length s / rowRoom at) (length t / stepRoom)
+abbrev pub rowsThatFit : Printing → List ℕ → List ℕ → ℕ
+rowsThatFit at s t = min (length s / rowRoom at) (length t / stepRoom)
 
 abbrev pub partAt : Printing → List ℕ → List ℕ → Part
-partAt at s t = partOf (fitting at s t) at
+partAt at s t = nextPart (rowsThatFit at s t) at
 
 abbrev pub rowsAfter : Printing → List ℕ → List ℕ → List ℕ
-rowsAfter at s t = over 0 (join (partRows (fitting at s t) at)) s
+rowsAfter at s t = over 0 (join (partRows (rowsThatFit at s t) at)) s
 
 abbrev pub textAfter : Printing → List ℕ → List ℕ → List ℕ
-textAfter at s t = over 0 (partText (fitting at s t) at) t
+textAfter at s t = over 0 (partText (rowsThatFit at s t) at) t
 
 -- ---- a part and what is left behind it
 
@@ -188,7 +188,7 @@ part-shorter k at u h g =
 abbrev pub toGo : Bool → Printing → ℕ
 toGo more at = cond more (suc (length (textLeft at))) 0
 
-pub part-falls : (k : ℕ) (at : Printing) → Underway at → (1 ≤ rowRoom at → 1 ≤ k) → {r : Part} → r ≡ partOf k at → toGo (r .more) (r .next) < toGo true at
+pub part-falls : (k : ℕ) (at : Printing) → Underway at → (1 ≤ rowRoom at → 1 ≤ k) → {r : Part} → r ≡ nextPart k at → toGo (r .more) (r .next) < toGo true at
 part-falls k at u h e = rw e (by-test (goesOn (behindPart k at))
     (λ m. rw m (let less = part-shorter k at u h (goes at m) in omega arith))
     (λ m. rw m (omega arith)))
@@ -210,8 +210,8 @@ nothing-left Nothing g = refl
 -- ---- the slices of a call
 
 -- A row that is next fits slices that hold one.
-pub fitting-some : (at : Printing) (s t : List ℕ) → rowRoom at ≤ length s → stepRoom ≤ length t → 1 ≤ rowRoom at → 1 ≤ fitting at s t
-fitting-some at s t h l w =
+pub rowsThatFit-some : (at : Printing) (s t : List ℕ) → rowRoom at ≤ length s → stepRoom ≤ length t → 1 ≤ rowRoom at → 1 ≤ rowsThatFit at s t
+rowsThatFit-some at s t h l w =
     let numbers : 1 ≤ length s / rowRoom at = le-div-iff-mul-le {k = rowRoom at} {x = 1} {y = length s} (omega arith) .1 (omega arith) in
     let bytes : 1 ≤ length t / stepRoom = le-div-iff-mul-le {k = stepRoom} {x = 1} {y = length t} (omega arith) .1 (omega arith) in
     omega arith
@@ -225,7 +225,7 @@ row-room-most (Total n) u = omega arith
 row-room-most Nothing u = omega arith
 
 -- What is put is at the front of the text, whatever its room.
-pub put-part : (k : ℕ) (at : Printing) (t : List ℕ) {r : Part} {exit : List ℕ} → r ≡ partOf k at → exit ≡ over 0 (partText k at) t
+pub put-part : (k : ℕ) (at : Printing) (t : List ℕ) {r : Part} {exit : List ℕ} → r ≡ nextPart k at → exit ≡ over 0 (partText k at) t
     → (r .bytes ≤ length exit) × (take (r .bytes) exit ≡ partText k at)
 put-part k at t e f =
     rw (e, f, over-front (partText k at) t)

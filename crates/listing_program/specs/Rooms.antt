@@ -6,8 +6,8 @@ use Rattle.listing_rows.specs.Room.{stepRoom}
 abbrev rowsAtHand : ℕ
 rowsAtHand = 3072
 
-abbrev pub mostNumbers : ℕ
-mostNumbers = rowsAtHand * longestRow
+abbrev pub numbersAtHand : ℕ
+numbersAtHand = rowsAtHand * longestRow
 
-abbrev pub mostBytes : ℕ
-mostBytes = rowsAtHand * stepRoom
+abbrev pub bytesAtHand : ℕ
+bytesAtHand = rowsAtHand * stepRoom

@@ -5,7 +5,7 @@ ghost use lib.ListN.{length};
 ghost use Rattle.definitions.specs.Ranking.{longestRow};
 ghost use Rattle.listing_rows.specs.Room.{stepRoom};
 ghost use Rattle.listing_parts.specs.Left.{Underway};
-ghost use Rattle.listing_program.specs.Rooms.{mostNumbers, mostBytes};
+ghost use Rattle.listing_program.specs.Rooms.{numbersAtHand, bytesAtHand};
 use crate::input::LINE_ROOM;
 use crate::input::read_input;
 use libc::STDOUT_FILENO;
@@ -16,9 +16,9 @@ use listing_parts::parts;
 const ROWS_AT_HAND: usize = 3072;
 
 // The numbers of so many rows, and the bytes of their text.
-const MOST_NUMBERS: usize = ROWS_AT_HAND * limits::LONGEST_ROW;
+const NUMBERS_AT_HAND: usize = ROWS_AT_HAND * limits::LONGEST_ROW;
 
-const MOST_BYTES: usize = ROWS_AT_HAND * listing_rows::STEP_ROOM;
+const BYTES_AT_HAND: usize = ROWS_AT_HAND * listing_rows::STEP_ROOM;
 
 // The first n bytes of a text.
 fn show(text: &[u8], n: usize)
@@ -54,20 +54,20 @@ fn print_within(input: &[u8], rows: &mut [u32], text: &mut [u8], numbers: usize,
 
 // The listing of a line, in parts that so many numbers and bytes hold.
 pub fn print(input: &[u8], numbers: usize, bytes: usize)
-    requires { ⌜ (longestRow ≤ numbers) × (numbers ≤ mostNumbers) ⌝ }
-    requires { ⌜ (stepRoom ≤ bytes) × (bytes ≤ mostBytes) ⌝ }
+    requires { ⌜ (longestRow ≤ numbers) × (numbers ≤ numbersAtHand) ⌝ }
+    requires { ⌜ (stepRoom ≤ bytes) × (bytes ≤ bytesAtHand) ⌝ }
 {
-    let mut numbers_at_hand = [0u32; MOST_NUMBERS];
+    let mut numbers_at_hand = [0u32; NUMBERS_AT_HAND];
     let rows: &mut [u32] = &mut numbers_at_hand;
-    let mut bytes_at_hand = [0u8; MOST_BYTES];
+    let mut bytes_at_hand = [0u8; BYTES_AT_HAND];
     let text: &mut [u8] = &mut bytes_at_hand;
     print_within(input, rows, text, numbers, bytes);
 }
 
 // The same for the line that stands at standard input.
 pub fn run_within(numbers: usize, bytes: usize)
-    requires { ⌜ (longestRow ≤ numbers) × (numbers ≤ mostNumbers) ⌝ }
-    requires { ⌜ (stepRoom ≤ bytes) × (bytes ≤ mostBytes) ⌝ }
+    requires { ⌜ (longestRow ≤ numbers) × (numbers ≤ numbersAtHand) ⌝ }
+    requires { ⌜ (stepRoom ≤ bytes) × (bytes ≤ bytesAtHand) ⌝ }
 {
     let mut input = [0u8; LINE_ROOM];
     let n = read_input(&mut input);
@@ -76,5 +76,5 @@ pub fn run_within(numbers: usize, bytes: usize)
 
 // The same with all the room at hand.
 pub fn run() {
-    run_within(MOST_NUMBERS, MOST_BYTES);
+    run_within(NUMBERS_AT_HAND, BYTES_AT_HAND);
 }

@@ -127,20 +127,20 @@ module _ (k : Rule) where
 -- ---- from page to page
 
 -- What a walk has come to: a position of the list; the pages received and the rows above the position are the list; and each page had a row.
-pub record Reached (k : Rule) (at : Position) (ps : List (List (List ℕ))) : Type 0 where
+pub record ComeTo (k : Rule) (at : Position) (ps : List (List (List ℕ))) : Type 0 where
   pub listed : ListedPosition k at
   pub whole : join ps ++ leftBy k at ≡ rankedBy k
   pub few : length ps ≤ length (join ps)
 
 module _ (k : Rule) where
-  pub reached-start : Reached k Start []
+  pub come-to-start : ComeTo k Start []
   unfolding cutBy
-  reached-start = record { listed = at-start; whole = rest-all rowKey start (rankedBy k) (rankedBy-ascends k); few = omega arith }
+  come-to-start = record { listed = at-start; whole = rest-all rowKey start (rankedBy k) (rankedBy-ascends k); few = omega arith }
 
-  module _ {at : Position} {ps : List (List (List ℕ))} (r : Reached k at ps) where
+  module _ {at : Position} {ps : List (List (List ℕ))} (r : ComeTo k at ps) where
     -- A page that another row follows.
-    pub reached-page : (n : ℕ) → 1 ≤ n → moreBy k at n ≡ true → Reached k (afterLast (pageBy k at n)) (ps ++ pageBy k at n ∷ [])
-    reached-page n room t =
+    pub come-to-page : (n : ℕ) → 1 ≤ n → moreBy k at n ≡ true → ComeTo k (afterLast (pageBy k at n)) (ps ++ pageBy k at n ∷ [])
+    come-to-page n room t =
         let rows = pageBy k at n in
         let some = some-row k at n room t in
         record {
@@ -150,11 +150,11 @@ module _ (k : Rule) where
         }
 
     -- A page that nothing follows.
-    pub reached-last : (n : ℕ) → moreBy k at n ≡ false → join (ps ++ pageBy k at n ∷ []) ≡ rankedBy k
-    reached-last n f = rw (join-last, end-has-all rowKey (cutBy k at) n (rankedBy k) f) (r .whole)
+    pub come-to-last : (n : ℕ) → moreBy k at n ≡ false → join (ps ++ pageBy k at n ∷ []) ≡ rankedBy k
+    come-to-last n f = rw (join-last, end-has-all rowKey (cutBy k at) n (rankedBy k) f) (r .whole)
 
-    pub reached-front : join ps ≡ take (length (join ps)) (rankedBy k)
-    reached-front = rw (← r .whole) (sym (take-append-seam (join ps) (leftBy k at)))
+    pub come-to-front : join ps ≡ take (length (join ps)) (rankedBy k)
+    come-to-front = rw (← r .whole) (sym (take-append-seam (join ps) (leftBy k at)))
 
-    pub reached-few : length ps ≤ length (rankedBy k)
-    reached-few = omega (arith, r .few, simp length-append at (ap length (r .whole)))
+    pub come-to-few : length ps ≤ length (rankedBy k)
+    come-to-few = omega (arith, r .few, simp length-append at (ap length (r .whole)))

@@ -25,7 +25,7 @@ use Rattle.page_laws.specs.Rows.{rowsOf, rows-back}
 use Rattle.ranking_laws.specs.Met.{ruleOf, width-is}
 use Rattle.ranking_laws.specs.Ranked.{ranked-is}
 use Rattle.ranking_laws.specs.Reading.{cutBy, ListedPosition, at-start, after-listed, afterLast, pageBy, moreBy, page-wide}
-use Rattle.ranking_laws.specs.Reading.{Reached, reached-page, reached-last}
+use Rattle.ranking_laws.specs.Reading.{ComeTo, come-to-page, come-to-last}
 
 -- The rows that are read out of the slice after a page was given.
 abbrev pub receivedRows : Selection → Position → List ℕ → List (List ℕ)
@@ -65,26 +65,26 @@ module _ (l : Selection) (lawful-degree : lawfulDegree (l .degree) ≡ true) (la
 
   -- ---- a walk through the list that has come to a position, and a slice that holds a row
 
-  module _ {at : Position} {ps : List (List (List ℕ))} (r : Reached (ruleOf l) at ps) (s : List ℕ) (room : rowWidth l ≤ length s) where
+  module _ {at : Position} {ps : List (List (List ℕ))} (r : ComeTo (ruleOf l) at ps) (s : List ℕ) (room : rowWidth l ≤ length s) where
     abbrev asked : PageRequest
     asked = pageRequest l at
 
     -- The page is given, and
-    pub page-reached : pageAnswer (pageRequest l at) s ≡ Page (length (pageRows (pageRequest l at) s)) (furtherRow (pageRequest l at) s)
-    page-reached = not-refused (r .listed) s room
+    pub page-answered : pageAnswer (pageRequest l at) s ≡ Page (length (pageRows (pageRequest l at) s)) (furtherRow (pageRequest l at) s)
+    page-answered = not-refused (r .listed) s room
 
     received : receivedRows l at s ≡ pageBy (ruleOf l) at (capacity asked s)
     received =
         let wide = rw (width-is l (lawfulTop-is (l .top) .0 lawful-top .low)) at (page-wide (ruleOf l) at (capacity asked s)) in
-        rw (page-given asked s page-reached .3) (rows-back (rowWidth l) (pageRows asked s) s (rw (rows-are l at s) wide) ∙ rows-are l at s)
+        rw (page-given asked s page-answered .3) (rows-back (rowWidth l) (pageRows asked s) s (rw (rows-are l at s) wide) ∙ rows-are l at s)
 
     full : 1 ≤ capacity asked s
     full = le-div-iff-mul-le {k = rowWidth l} {x = 1} {y = length s} (omega arith) .1 (omega (arith, room))
 
     -- the walk goes on,
-    pub page-goes-on : furtherRow (pageRequest l at) s ≡ true → Reached (ruleOf l) (afterLast (receivedRows l at s)) (ps ++ receivedRows l at s ∷ [])
-    page-goes-on t = rw received (reached-page (ruleOf l) r (capacity asked s) full (sym (further-is l at s) ∙ t))
+    pub page-goes-on : furtherRow (pageRequest l at) s ≡ true → ComeTo (ruleOf l) (afterLast (receivedRows l at s)) (ps ++ receivedRows l at s ∷ [])
+    page-goes-on t = rw received (come-to-page (ruleOf l) r (capacity asked s) full (sym (further-is l at s) ∙ t))
 
     -- or it has the ranked list.
     pub page-ends : furtherRow (pageRequest l at) s ≡ false → join (ps ++ receivedRows l at s ∷ []) ≡ ranked l
-    page-ends f = rw (received, ranked-is) (reached-last (ruleOf l) r (capacity asked s) (sym (further-is l at s) ∙ f))
+    page-ends f = rw (received, ranked-is) (come-to-last (ruleOf l) r (capacity asked s) (sym (further-is l at s) ∙ f))

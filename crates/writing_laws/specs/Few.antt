@@ -10,10 +10,10 @@ use native.Mathlib.Omega.{arith}
 use native.Mathlib.Decide.{ℕ-discrete}
 use lib.Bits.{xor-add-and}
 use lib.ListN.{length, length-append}
-use lib.Pow.{pow-pos, pow-mono}
+use lib.Pow.{pow-pos}
 use Rattle.definitions.specs.declared.Selection.{Selection}
 use Rattle.definitions.specs.Polynomial.{_⊕_, prod}
-use Rattle.definitions.specs.Generator.{largestDegree, Pair, child, pairsBelow}
+use Rattle.definitions.specs.Generator.{Pair, child, pairsBelow}
 use Rattle.definitions.specs.Ranking.{ranked}
 use Rattle.definitions.specs.Catalogue.{countSize}
 use Rattle.number_laws.specs.Truth.{truth-false, not-both}
@@ -28,6 +28,7 @@ use Rattle.fraction_laws.specs.Tree.{tree-def, pairsBelow-suc}
 use Rattle.order_laws.specs.Accepted.{accepted-is}
 use Rattle.order_laws.specs.Parity.{even-not-primitive}
 use Rattle.page_laws.specs.Insertion.{sort-length}
+use Rattle.catalogue_laws.specs.Sizes.{count-fits}
 use Rattle.ranking_laws.specs.Rule.{Rule, metBy, metBy-append, metBy-less, metBy-length, rankedBy, tree-rankedBy}
 use Rattle.ranking_laws.specs.Met.{ruleOf}
 use Rattle.ranking_laws.specs.Ranked.{ranked-is}
@@ -128,11 +129,6 @@ module _ (l : Selection) where
 
   pub ranked-below : 2 ≤ l .degree → length (ranked l) < 2 ^ l .degree
   ranked-below h = rw ranked-is (rankedBy-below (ruleOf l) h)
-
--- A number below 2^m fits the bytes of a row count.
-pub count-fits : (m : ℕ) → LawfulDegree m → 2 ^ m ≤ 256 ^ countSize m
-unfolding countSize
-count-fits m h = pow-mono {i = m} {j = largestDegree} (h .high)
 
 pub ranked-count-fits : (l : Selection) → LawfulDegree (l .degree) → length (ranked l) < 256 ^ countSize (l .degree)
 ranked-count-fits l h = omega (arith, ranked-below l (h .low), count-fits (l .degree) h)

@@ -17,7 +17,7 @@ use Rattle.definitions.specs.declared.Lookup.the-variants.{Body, NoBody}
 use Rattle.definitions.specs.declared.Refusal.the-variants.{DegreeMissing}
 use Rattle.answer_laws.specs.Unless.{unless-refused}
 use Rattle.catalogue_laws.specs.Form.{entry-at-degree}
-use Rattle.catalogue_laws.specs.Missing.{HasDegree, missing-exactly}
+use Rattle.catalogue_laws.specs.Missing.{HasEntry, missing-exactly}
 use Rattle.catalogue_laws.specs.Outcome.{looking-missing}
 use Rattle.catalogue_laws.specs.Reader.{handsOut}
 use Rattle.catalogue_laws.specs.Encoding.{Listed, bodyBytes, behindLists, catalogueBytes}
@@ -31,13 +31,13 @@ abbrev pub readBy : List ℕ → ℕ → ℕ → List NextRow
 readBy s m n = handsOut n m (readerTop s m) (lookupPart s m) 0
 
 -- The T + 1 numbers of a row that is handed out.
-abbrev pub numbersOf : ℕ → NextRow → List ℕ
-numbersOf top (Found r) = numbersUpTo top r
-numbersOf top End = []
+abbrev pub numbersRead : ℕ → NextRow → List ℕ
+numbersRead top (Found r) = numbersUpTo top r
+numbersRead top End = []
 
 -- The list of a degree: T and as many rows as the lookup says; no rows where it is refused.
 unfoldable pub listBy : List ℕ → ℕ → Lookup → Listed
-listBy s m (Body top rows) = record { degree = m; top = top; rows = map (numbersOf top) (readBy s m rows) }
+listBy s m (Body top rows) = record { degree = m; top = top; rows = map (numbersRead top) (readBy s m rows) }
 listBy s m (NoBody r) = record { degree = m; top = 0; rows = [] }
 
 unfoldable pub heldOf : List ℕ → ℕ → Listed
@@ -92,9 +92,9 @@ lawful-member (more a h f) (List·Memᴰ·head e) = subst LawfulListed (sym e) h
 lawful-member (more a h f) (List·Memᴰ·tail i) = lawful-member f i
 
 -- A row's T + 1 numbers are given back by the row that is handed out.
-numbers-back : (l : Listed) → LawfulListed l → map (numbersOf (l .top)) (map (λ (r : List ℕ). Found (rowOf r)) (l .rows)) ≡ l .rows
+numbers-back : (l : Listed) → LawfulListed l → map (numbersRead (l .top)) (map (λ (r : List ℕ). Found (rowOf r)) (l .rows)) ≡ l .rows
 numbers-back l h =
-    map-map (numbersOf (l .top)) (λ (r : List ℕ). Found (rowOf r)) (l .rows)
+    map-map (numbersRead (l .top)) (λ (r : List ℕ). Found (rowOf r)) (l .rows)
     ∙ map-same (λ (r : List ℕ). numbersUpTo (l .top) (rowOf r)) (l .rows)
     (λ r i.
     let a = indexed [] (l .rows) i in
@@ -129,7 +129,7 @@ module _ (ls : List Listed) (h : LawfulLists 0 ls) where
         let read : readBy file (l .degree) (length (l .rows)) ≡ map (λ (r : List ℕ). Found (rowOf r)) (l .rows) =
         rw add-zero at (rows-held 0) ∙ append-nil _ in
         rw numbers-held
-        (λ j. record { degree = l .degree; top = l .top; rows = (ap (map (numbersOf (l .top))) read ∙ numbers-back l (lawful-member h i)) j })
+        (λ j. record { degree = l .degree; top = l .top; rows = (ap (map (numbersRead (l .top))) read ∙ numbers-back l (lawful-member h i)) j })
 
   -- HELD: what a catalogue is made of is what it holds.
   pub lists-held : heldIn file ≡ ls
@@ -144,7 +144,7 @@ module _ (ls : List Listed) (h : LawfulLists 0 ls) where
   unfolding lookupNumbers
   others-missing m d other = unless-refused _ _ (looking-missing file m d (catalogue-written ls h) (missing-exactly file m .1 none-has))
     where
-      none-has : HasDegree file m → ⊥
+      none-has : HasEntry file m → ⊥
       none-has x =
           let listed = degree-member file (byteAt file 0) firstEntry (x .index) (x .listed) in
           let of = Memᴰ·of-map (λ (l : Listed). l .degree) ls (subst (List·Memᴰ _) degrees-back listed) in

@@ -27,11 +27,11 @@ use Rattle.writing_laws.specs.Held.{readBy, heldIn, numbers-held, rows-h
 use Rattle.writing_laws.specs.InBytes.{InBytes, catalogue-bytes}
 
 -- The list that an entry asks for.
-unfoldable pub listOf : Selection → Listed
-listOf l = record { degree = l .degree; top = l .top; rows = ranked l }
+unfoldable pub rankedList : Selection → Listed
+rankedList l = record { degree = l .degree; top = l .top; rows = ranked l }
 
 unfoldable pub rankedFile : List Selection → List ℕ
-rankedFile ls = catalogueBytes (map listOf ls)
+rankedFile ls = catalogueBytes (map rankedList ls)
 
 -- Lawful entries of ascending degrees, behind the degree `last`.
 pub data LawfulEntries : ℕ → List Selection → Type 0 where
@@ -39,12 +39,12 @@ pub data LawfulEntries : ℕ → List Selection → Type 0 where
   next : {last : ℕ} {l : Selection} {ls : List Selection} → last < l .degree → LawfulDegree (l .degree) → LawfulTop (l .top)
       → LawfulEntries (l .degree) ls → LawfulEntries last (l ∷ ls)
 
-pub list-lawful : (l : Selection) → LawfulDegree (l .degree) → LawfulTop (l .top) → LawfulListed (listOf l)
-unfolding listOf
+pub list-lawful : (l : Selection) → LawfulDegree (l .degree) → LawfulTop (l .top) → LawfulListed (rankedList l)
+unfolding rankedList
 list-lawful l d t = record { lawful-degree = d; lawful-top = t; few = ranked-count-fits l d; each = ranked-lawful l d t }
 
-pub lists-lawful : {last : ℕ} {ls : List Selection} → LawfulEntries last ls → LawfulLists last (map listOf ls)
-unfolding listOf
+pub lists-lawful : {last : ℕ} {ls : List Selection} → LawfulEntries last ls → LawfulLists last (map rankedList ls)
+unfolding rankedList
 lists-lawful ends = none
 lists-lawful (next {l = l} a d t f) = more a (list-lawful l d t) (lists-lawful f)
 
@@ -52,7 +52,7 @@ lists-lawful (next {l = l} a d t f) = more a (list-lawful l d t) (lists-lawful f
 
 module _ (ls : List Selection) (h : LawfulEntries 0 ls) where
   abbrev lists : List Listed
-  lists = map listOf ls
+  lists = map rankedList ls
 
   pub file-form : catalogueForm (rankedFile ls) ≡ true
   unfolding rankedFile
@@ -60,30 +60,30 @@ module _ (ls : List Selection) (h : LawfulEntries 0 ls) where
 
   pub file-opens : opening (rankedFile ls) ≡ Entries (length ls)
   unfolding rankedFile
-  file-opens = written-opens lists (lists-lawful h) ∙ ap Entries (length-map ls listOf)
+  file-opens = written-opens lists (lists-lawful h) ∙ ap Entries (length-map ls rankedList)
 
   -- ROUND TRIP: the same degrees, T and rows, in order.
-  pub file-held : heldIn (rankedFile ls) ≡ map listOf ls
+  pub file-held : heldIn (rankedFile ls) ≡ map rankedList ls
   unfolding rankedFile
   file-held = lists-held lists (lists-lawful h)
 
   -- The same of one degree, by a lookup and by a reader.
   module _ (l : Selection) (i : List·Memᴰ l ls) where
     pub file-numbers : lookupNumbers (rankedFile ls) (l .degree) ≡ Body (l .top) (length (ranked l))
-    unfolding rankedFile listOf
-    file-numbers = numbers-held lists (lists-lawful h) (listOf l) (Memᴰ·map listOf i)
+    unfolding rankedFile rankedList
+    file-numbers = numbers-held lists (lists-lawful h) (rankedList l) (Memᴰ·map rankedList i)
 
     pub file-rows : (n : ℕ) → readBy (rankedFile ls) (l .degree) (length (ranked l) + n) ≡ map (λ (r : List ℕ). Found (rowOf r)) (ranked l) ++ replicate n End
-    unfolding rankedFile listOf
-    file-rows = rows-held lists (lists-lawful h) (listOf l) (Memᴰ·map listOf i)
+    unfolding rankedFile rankedList
+    file-rows = rows-held lists (lists-lawful h) (rankedList l) (Memᴰ·map rankedList i)
 
   -- No other degree is found.
   pub file-missing : (m : ℕ) → lawfulDegree m ≡ true → ((l : Selection) → List·Memᴰ l ls → l .degree ≡ m → ⊥)
       → lookupNumbers (rankedFile ls) m ≡ NoBody DegreeMissing
-  unfolding rankedFile listOf
+  unfolding rankedFile rankedList
   file-missing m d other =
       others-missing lists (lists-lawful h) m d
-      (λ x i e. let of = Memᴰ·of-map listOf ls i in other (of .0) (of .1) (ap (λ (y : Listed). y .degree) (of .2) ∙ e))
+      (λ x i e. let of = Memᴰ·of-map rankedList ls i in other (of .0) (of .1) (ap (λ (y : Listed). y .degree) (of .2) ∙ e))
 
 -- ---- the length
 
@@ -98,17 +98,17 @@ fileSize (l ∷ ls) = listSize l + fileSize ls
 
 -- The entries from place i on and the bodies.
 sizes : {last : ℕ} {ls : List Selection} (i : ℕ) → LawfulEntries last ls
-    → behindLists (map listOf ls) i + length (bodiesBytes (map listOf ls)) + firstEntry ≡ i + fileSize ls
-unfolding behindLists fileSize listSize listOf
+    → behindLists (map rankedList ls) i + length (bodiesBytes (map rankedList ls)) + firstEntry ≡ i + fileSize ls
+unfolding behindLists fileSize listSize rankedList
 sizes i ends = omega arith
 sizes {ls = l ∷ ls} i (next a d t f) =
-    let body = body-length (listOf l) (list-lawful l d t) in
-    omega (arith, sizes (i + entrySize (l .degree)) f, length-append (bodyBytes (listOf l)) (bodiesBytes (map listOf ls)))
+    let body = body-length (rankedList l) (list-lawful l d t) in
+    omega (arith, sizes (i + entrySize (l .degree)) f, length-append (bodyBytes (rankedList l)) (bodiesBytes (map rankedList ls)))
 
 module _ (ls : List Selection) (h : LawfulEntries 0 ls) where
-  laid : Laid (rankedFile ls) (map listOf ls) firstEntry (behindLists (map listOf ls) firstEntry)
+  laid : Laid (rankedFile ls) (map rankedList ls) firstEntry (behindLists (map rankedList ls) firstEntry)
   unfolding rankedFile
-  laid = catalogue-laid (map listOf ls) (lists-lawful h)
+  laid = catalogue-laid (map rankedList ls) (lists-lawful h)
 
   pub file-length : length (rankedFile ls) ≡ fileSize ls
   file-length = omega (arith, laid .ends, sizes firstEntry h)
@@ -119,7 +119,7 @@ module _ (ls : List Selection) (h : LawfulEntries 0 ls) where
 
   pub file-bytes : InBytes (rankedFile ls)
   unfolding rankedFile
-  file-bytes = catalogue-bytes (map listOf ls) (lists-lawful h)
+  file-bytes = catalogue-bytes (map rankedList ls) (lists-lawful h)
 
 -- With no entry the file is the byte 0.
 pub file-none : rankedFile [] ≡ 0 ∷ []
@@ -128,5 +128,5 @@ file-none = refl
 
 -- Document 01's catalogue of 41 bytes.
 pub file-printed : rankedFile (record { degree = 3; top = 4 } ∷ []) ≡ printed
-unfolding rankedFile listOf
+unfolding rankedFile rankedList
 file-printed = printed-bytes

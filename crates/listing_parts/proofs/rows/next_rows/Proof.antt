@@ -10,7 +10,7 @@ use borrow.Author.Needs.{needs}
 use Rattle.definitions.specs.Ranking.{rowWidth, longestRow}
 use Rattle.listing_rows.specs.Room.{stepRoom}
 use Rattle.listing_rows.specs.Taken.{HandedWithin}
-use Rattle.listing_parts.specs.Parts.{fitting, fitting-some}
+use Rattle.listing_parts.specs.Parts.{rowsThatFit, rowsThatFit-some}
 use Rattle.listing_parts.specs.declared.Printing.{Printing}
 use Rattle.listing_parts.specs.declared.Printing.the-variants.{Rows}
 use Rattle.listing_parts.proofs.NextRows.{fits-numbers, fits-bytes, few-handed, next-none, next-more, next-end}
@@ -27,7 +27,7 @@ printing c = let a = entry c .args in Rows (a .from) (a .size) (a .done)
 
 -- How many rows fit.
 abbrev fit : tie.After-take-rows-arg → ℕ
-fit c = let a = entry c .args in fitting (printing c) (now (a .rows)) (now (a .text))
+fit c = let a = entry c .args in rowsThatFit (printing c) (now (a .rows)) (now (a .text))
 
 width-is : (c : tie.After-take-rows-arg) → c .before .before .width-of .result ≡ rowWidth (entry c .args .from .list)
 width-is c = c .before .before .width-of .ensures
@@ -40,7 +40,7 @@ most-is c =
 some-fit : (c : tie.After-take-rows-arg) → 1 ≤ fit c
 some-fit c =
     let e = entry c in
-    fitting-some (printing c) (now (e .args .rows)) (now (e .args .text)) (e .pre .1 .0) (e .pre .1 .1) (omega arith)
+    rowsThatFit-some (printing c) (now (e .args .rows)) (now (e .args .text)) (e .pre .1 .0) (e .pre .1 .1) (omega arith)
 
 take-rows-requires : tie.Need-take-rows-requires
 take-rows-requires c κs =

@@ -2,15 +2,15 @@
 use mathlib.Core.Path.{_≡_, sym, subst}
 use Prim.Native.Nat.{ℕ, _≤_}
 use lib.ListN.{length, replicate, length-replicate}
-use Rattle.listing_program.specs.Rooms.{mostNumbers, mostBytes}
+use Rattle.listing_program.specs.Rooms.{numbersAtHand, bytesAtHand}
 use Rattle.listing_program.proofs.program.print.Statement.{statement}
 use Rattle.listing_program.proofs.program.print.Tie as tie
 
-numbers-long : mostNumbers ≡ length (replicate {A = ℕ} mostNumbers 0)
-numbers-long = sym (length-replicate {A = ℕ} mostNumbers 0)
+numbers-long : numbersAtHand ≡ length (replicate {A = ℕ} numbersAtHand 0)
+numbers-long = sym (length-replicate {A = ℕ} numbersAtHand 0)
 
-bytes-long : mostBytes ≡ length (replicate {A = ℕ} mostBytes 0)
-bytes-long = sym (length-replicate {A = ℕ} mostBytes 0)
+bytes-long : bytesAtHand ≡ length (replicate {A = ℕ} bytesAtHand 0)
+bytes-long = sym (length-replicate {A = ℕ} bytesAtHand 0)
 
 slice-aggregate-rows : tie.Need-slice-aggregate-rows
 slice-aggregate-rows c = numbers-long

@@ -8,7 +8,7 @@ use lib.ListN.{length}
 use borrow.Author.Needs.{needs}
 use Rattle.listing_rows.specs.Room.{stepRoom}
 use Rattle.listing_parts.specs.Left.{Underway, rowRoom}
-use Rattle.listing_parts.specs.Parts.{fitting, toGo, part-underway, part-falls, fitting-some, row-room-most, put-part}
+use Rattle.listing_parts.specs.Parts.{rowsThatFit, toGo, part-underway, part-falls, rowsThatFit-some, row-room-most, put-part}
 use Rattle.listing_program.proofs.program.print_parts.Statement.{statement}
 use Rattle.listing_program.proofs.program.print_parts.Tie as tie
 
@@ -33,7 +33,7 @@ text-fits : (c : tie.At-loop Inv-loop μ-loop) → stepRoom ≤ length (c .loop 
 text-fits c = omega (arith, c .loop .inv .2, start c .pre .1 .1)
 
 abbrev fit : tie.At-loop Inv-loop μ-loop → ℕ
-fit c = fitting (c .loop .at) (c .loop .rows) (c .loop .text)
+fit c = rowsThatFit (c .loop .at) (c .loop .rows) (c .loop .text)
 
 loop-holds : tie.Need-loop-holds Inv-loop μ-loop
 loop-holds c = (c .before .before .pre .0, refl, refl)
@@ -58,7 +58,7 @@ loop-less c =
     subst (λ (more : Bool). toGo (next .next .result .more) (next .next .result .next) < toGo more (at .loop .at))
     (sym (next .before .before .before .loop-test .taken))
     (part-falls (fit at) (at .loop .at) (at .loop .inv .0)
-    (fitting-some (at .loop .at) (at .loop .rows) (at .loop .text) (row-fits at) (text-fits at)) (next .next .ensures .0))
+    (rowsThatFit-some (at .loop .at) (at .loop .rows) (at .loop .text) (row-fits at) (text-fits at)) (next .next .ensures .0))
 
 loop-again : tie.Need-loop-again Inv-loop μ-loop
 loop-again c =
