@@ -27,7 +27,7 @@ mostDigits = 9
 
 -- What is asked where the line does not say it, and the largest page size.
 abbrev pub defaultTop : ℕ
-defaultTop = 5
+defaultTop = 8
 
 abbrev pub defaultSize : ℕ
 defaultSize = 50

@@ -8,7 +8,7 @@ use text::lines::put_line;
 use text::lines::put_long_line;
 
 // What is asked where the line does not say it.
-const DEFAULT_TOP: u32 = 5;
+const DEFAULT_TOP: u32 = 8;
 
 const DEFAULT_SIZE: u32 = 50;
 

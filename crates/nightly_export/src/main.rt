@@ -1,4 +1,4 @@
-// The nightly export: the listing of one degree, with the default top dimension and page size.
+// The nightly export: the listing of one degree up to dimension 5, which its input line names; page size by default.
 fn main() {
     listing_program::program::run();
 }

@@ -30,5 +30,5 @@ fn main() {
     print(b"3 4 3\nxyz 9\n");
     print(b"3 4 3\n3 4 4\n");
     print(b"3");
-    print_next(29);
+    print_next(30);
 }
