@@ -25,7 +25,7 @@ digitNine = 57
 abbrev pub mostDigits : ℕ
 mostDigits = 9
 
--- What is asked where the line does not say it, and the largest page size.
+-- What is asked where the line does not say it, T as in document 02, and the largest page size.
 abbrev pub defaultTop : ℕ
 defaultTop = 8
 

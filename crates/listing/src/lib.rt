@@ -7,7 +7,7 @@ use definitions::Line;
 use text::lines::put_line;
 use text::lines::put_long_line;
 
-// What is asked where the line does not say it.
+// What is asked where the line does not say it; T as in document 02.
 const DEFAULT_TOP: u32 = 8;
 
 const DEFAULT_SIZE: u32 = 50;
