@@ -1,6 +1,7 @@
 /* The header's functions in plain C made fast: what the library's figures are set beside. Nothing here is proved; tests/c
    compares it with the reference as it does the library. Quick order tests, one walk down the tree for a page with the slice as workspace,
    and for t the lightest linear relation between rows x^i q^j mod p, each dimension starting where the one before ended. */
+#include "fast.h"
 #include "fenyurka.h"
 
 #include <string.h>
@@ -318,6 +319,20 @@ FenyurkaPage fenyurka_page_after(FenyurkaList list, uint32_t p, uint32_t q, uint
     for (uint32_t d = 3; d <= list.top; d++)
         page.position[d] = next_t(&s);
     return fill(&page, rows, rows_length);
+}
+
+/* ---- counting a list */
+
+static uint32_t count_below(uint32_t m, uint32_t left, uint32_t f1, uint32_t f0)
+{
+    if (left == 0)
+        return primitive(m, f1) && of_full_order(m, f1, f0);
+    return count_below(m, left - 1, f1 << 1 ^ f0, f1) + count_below(m, left - 1, f1 << 1 ^ f1 ^ f0, f1);
+}
+
+uint32_t count_pairs(uint32_t degree)
+{
+    return count_below(degree, degree, 1, 0);
 }
 
 /* ---- points */

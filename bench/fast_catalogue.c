@@ -1,7 +1,9 @@
-/* The header's functions in plain C made fast: catalogues. Nothing here is proved; tests/c compares it with the reference. */
+/* The header's functions in plain C made fast: catalogues. Nothing here is proved; tests/c compares it with the reference. A file is
+   measured by one walk for each list that counts, then each list is filled by another and put down in bytes. */
+#include "fast.h"
 #include "fenyurka.h"
 
-enum { MOST = 16 };
+enum { MOST = 16, MOST_ENTRIES = 15, MOST_ROWS = 2882 };
 
 static uint32_t pair_at(const uint8_t *bytes)
 {
@@ -73,4 +75,66 @@ FenyurkaRow fenyurka_row(FenyurkaList list, const uint8_t *body, size_t length, 
     for (uint32_t s = 3; s <= top; s++)
         row.numbers[s] = body[3 + s];
     return row;
+}
+
+/* ---- writing */
+
+static uint32_t request_refusal(const uint32_t *entries, size_t length)
+{
+    uint32_t wrong_top = length % 2, falling = 0, last = 0;
+    for (size_t i = 0; i < length; i += 2) {
+        if (entries[i] - 2 > MOST - 2)
+            return 1;
+        wrong_top |= i + 1 < length && entries[i + 1] - 3 > 5;
+        falling |= entries[i] <= last;
+        last = entries[i];
+    }
+    return wrong_top ? 2 : falling ? 13 : 0;
+}
+
+static uint8_t *put_pair(uint8_t *bytes, uint32_t number)
+{
+    bytes[0] = (uint8_t)(number >> 8);
+    bytes[1] = (uint8_t)number;
+    return bytes + 2;
+}
+
+static uint8_t *put_rows(uint8_t *bytes, const uint32_t *row, uint32_t rows, uint32_t m, uint32_t top)
+{
+    for (; rows > 0; rows--, row += top + 1, bytes += top - 2) {
+        bytes = put_pair(bytes, row[0] ^ 1u << m);
+        bytes = put_pair(bytes, row[1]);
+        bytes = put_pair(bytes, row[2]);
+        for (uint32_t s = 3; s <= top; s++)
+            bytes[s - 3] = (uint8_t)row[s];
+    }
+    return bytes;
+}
+
+FenyurkaFile fenyurka_write(const uint32_t *entries, size_t entries_length, uint8_t *file, size_t file_length)
+{
+    uint32_t rows[MOST_ROWS * FENYURKA_LONGEST_ROW], counts[MOST_ENTRIES], refusal = request_refusal(entries, entries_length);
+    if (refusal != 0)
+        return (FenyurkaFile){.refusal = refusal};
+    size_t n = entries_length / 2, length = 1 + 8 * n;
+    for (size_t i = 0; i < n; i++) {
+        counts[i] = count_pairs(entries[2 * i]);
+        length += counts[i] * (entries[2 * i + 1] + 4);
+    }
+    if (length > file_length)
+        return (FenyurkaFile){.refusal = 14};
+    uint8_t *entry = file + 1, *body = entry + 8 * n;
+    file[0] = (uint8_t)n;
+    for (size_t i = 0; i < n; i++) {
+        FenyurkaList list = {.degree = entries[2 * i], .top = entries[2 * i + 1]};
+        uint32_t offset = (uint32_t)(body - file);
+        *entry++ = (uint8_t)list.degree;
+        *entry++ = (uint8_t)list.top;
+        entry = put_pair(entry, counts[i]);
+        entry = put_pair(entry, offset >> 16);
+        entry = put_pair(entry, offset);
+        fenyurka_first_page(list, rows, sizeof rows / sizeof rows[0]);
+        body = put_rows(body, rows, counts[i], list.degree, list.top);
+    }
+    return (FenyurkaFile){.length = length};
 }

@@ -14,7 +14,7 @@ MOVED_BY(PLACE);
 enum { TOP = 8, WIDTH = TOP + 1, MOST_ROWS = 3000, SAMPLE = 100, PERIOD = 65535 };
 
 static uint32_t degree, list[MOST_ROWS * WIDTH], room[PERIOD + 1];
-static uint8_t file[9 + MOST_ROWS * (TOP + 4)];
+static uint8_t file[FENYURKA_LONGEST_FILE];
 static size_t rows, length;
 static volatile uint32_t sink;
 
@@ -130,34 +130,41 @@ static void points(void)
     measured("points: one word amid the period", 1);
 }
 
-static void put(uint32_t number, int width)
+/* Leaves a catalogue of the degrees first .. last in the file. */
+static void write_degrees(uint32_t first, uint32_t last)
 {
-    for (int i = width; i-- > 0;)
-        file[length++] = (uint8_t)(number >> 8 * i);
+    uint32_t entries[30];
+    size_t n = 0;
+    for (uint32_t m = first; m <= last; m++) {
+        entries[n++] = m;
+        entries[n++] = TOP;
+    }
+    FenyurkaFile written = fenyurka_write(entries, n, file, sizeof file);
+    if (written.refusal != 0)
+        wrong("writing");
+    length = written.length;
 }
 
-/* The whole list as a catalogue. */
-static void write_catalogue(void)
+/* Leaves a catalogue of this degree alone in the file. */
+static void writing(void)
 {
-    length = 0;
-    put(1, 1);
-    put(degree, 1);
-    put(TOP, 1);
-    put((uint32_t)rows, 2);
-    put(9, 4);
-    for (const uint32_t *row = list; row < list + rows * WIDTH; row += WIDTH) {
-        put(row[0] - (1u << degree), 2);
-        put(row[1], 2);
-        put(row[2], 2);
-        for (int s = 3; s <= TOP; s++)
-            put(row[s], 1);
-    }
+    mark();
+    write_degrees(degree, degree);
+    measured("writing: this degree alone, T = 8", 1);
+    mark();
+    write_degrees(2, degree);
+    measured("writing: degrees 2 to this one, T = 8", 1);
+    mark();
+    for (uint32_t m = 2; m <= degree; m++)
+        write_degrees(m, m);
+    measured("writing: the same, a file for each", 1);
+    if (length != 9 + rows * (TOP + 4))
+        wrong("length");
 }
 
 static void catalogue(void)
 {
     size_t read = 0;
-    write_catalogue();
     mark();
     FenyurkaCatalogue opened = fenyurka_open(file, length);
     if (opened.refusal != 0 || opened.entries != 1)
@@ -187,6 +194,7 @@ int main(void)
         judging();
         t_values();
         points();
+        writing();
         catalogue();
     }
     return 0;

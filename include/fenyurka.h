@@ -1,5 +1,6 @@
 /*
- * Fenyurka for C and C++: judges, ranks and writes out short-period Tausworthe generators over F_2, and reads catalogues of them.
+ * Fenyurka for C and C++: judges and ranks short-period Tausworthe generators over F_2, writes out their points, and writes and
+ * reads catalogues of ranked lists.
  *
  * Proved for every input: each function returns, and its result and every element of a buffer equal the definition
  * (crates/definitions; for the structs crates/results/specs, crates/catalogue_results/specs,
@@ -21,7 +22,8 @@
  * programs written in this way then have to be recompiled, and not changed.
  *
  * No function allocates memory, keeps a pointer, prints or has state, so calls with different buffers may run in parallel.
- * A call needs less than 16 KB of stack (measured by tests/c/stack.c: 8 KB for a page, 5 KB for fenyurka_points, 2 KB otherwise).
+ * fenyurka_write needs less than 128 KB of stack, since it keeps a whole list there: mind this in a thread with a small stack. Any
+ * other call needs less than 16 KB (8 KB for a page, 5 KB for fenyurka_points, 2 KB otherwise). tests/c/stack.c measures this.
  *
  * Link with the archive that `rt staticlib interface` writes (x86-64 Linux). tests/c/declarations compares this file with its source.
  */
@@ -46,11 +48,16 @@ enum fenyurka_refusal {
     FENYURKA_SHORT_SLICE = 7,          /* the buffer is shorter than a row */
     FENYURKA_BEYOND_PERIOD = 8,        /* the first index is above 2^m - 2 */
     FENYURKA_ILL_FORMED_CATALOGUE = 9, /* the bytes are not a catalogue */
-    FENYURKA_DEGREE_MISSING = 10       /* the catalogue has no such degree */
+    FENYURKA_DEGREE_MISSING = 10,      /* the catalogue has no such degree */
+    FENYURKA_NOT_ASCENDING = 13,       /* the degrees to be written do not strictly ascend */
+    FENYURKA_FILE_TOO_LONG = 14        /* the file would be longer than the buffer */
 };
 
 /* The most numbers that a row has: p, q, the step, t(3) .. t(8). */
 #define FENYURKA_LONGEST_ROW 9
+
+/* The most bytes that a file of fenyurka_write has: all degrees, each with T = 8 (compared by tests/c, not proved). */
+#define FENYURKA_LONGEST_FILE 92041
 
 /* Which ranked list is meant. */
 typedef struct FenyurkaList {
@@ -156,6 +163,24 @@ typedef struct FenyurkaRow {
  * The numbers are given as they stand in the file; fenyurka_open and fenyurka_lookup check their ranges.
  */
 FenyurkaRow fenyurka_row(FenyurkaList list, const uint8_t *body, size_t body_length, size_t place);
+
+typedef struct FenyurkaFile {
+    uint32_t refusal;
+    size_t length; /* bytes of the file */
+} FenyurkaFile;
+
+/*
+ * Writes a catalogue of whole ranked lists, which fenyurka_open, fenyurka_lookup and fenyurka_row read. `entries` says which lists:
+ * degree, T, degree, T, .., the degrees strictly ascending; `entries_length` counts numbers, two for each list. A last T that is
+ * missing counts as a wrong one. The file goes over the front of the buffer, and the bytes behind it stay; with no entries it is
+ * the single byte 0. The same entries always give the same bytes.
+ * A file has 1 byte, 8 for each entry and T + 4 for each row. If you do not know its length, pass a longer buffer:
+ * FENYURKA_LONGEST_FILE bytes hold every file.
+ * Costs two searches over all pairs for each entry, one that counts the rows and one that writes them; refusal 14 costs only the
+ * first ones, and the refusals before it none.
+ * Refusals: 1, 2, 13, 14.
+ */
+FenyurkaFile fenyurka_write(const uint32_t *entries, size_t entries_length, uint8_t *file, size_t file_length);
 
 #ifdef __cplusplus
 }

@@ -12,17 +12,18 @@
 
 /* ---- what is compared, and chance */
 
-enum call { JUDGE, T_VALUE, FIRST_PAGE, PAGE_AFTER, WALK, POINTS, OPEN, LOOKUP, ROW, END, CALLS };
+enum call { JUDGE, T_VALUE, FIRST_PAGE, PAGE_AFTER, WALK, POINTS, OPEN, LOOKUP, ROW, END, WRITE, READ_BACK, CALLS };
 static const char *const names[CALLS] = {
-    "judgements", "t-values", "first pages", "pages after a pair", "walks to the end", "points", "openings", "lookups", "rows read",
-    "ends of bodies",
+    "judgements", "t-values",       "first pages", "pages after a pair", "walks to the end", "points", "openings", "lookups",
+    "rows read",  "ends of bodies", "files",       "files read back",
 };
 /* How often each was answered with each number, and how often it differed. */
-static unsigned long answered[CALLS][11], differing;
+enum { MOST_REFUSAL = 14 };
+static unsigned long answered[CALLS][MOST_REFUSAL + 1], differing;
 
 static void same(enum call call, uint32_t answer, int agrees, const uint64_t *asked, int n)
 {
-    answered[call][answer <= 10 ? answer : 0]++;
+    answered[call][answer <= MOST_REFUSAL ? answer : 0]++;
     if (agrees || differing++ >= 20)
         return;
     printf("DIFFERENCE in %s asked", names[call]);
@@ -83,16 +84,18 @@ static int slice_is(const uint32_t *written, size_t count, size_t length)
 
 enum { FENCE = 1 << 16 };
 
-static uint8_t *fenced(const uint8_t *bytes, size_t length)
+/* Puts bytes at the end of the first or the second memory that has a fence behind it. */
+static void *fenced(int second, const void *bytes, size_t length)
 {
-    static uint8_t *end;
-    if (end == NULL) {
+    static uint8_t *ends[2];
+    uint8_t **end = &ends[second];
+    if (*end == NULL) {
         uint8_t *start = mmap(NULL, MOST_BYTES + FENCE, PROT_READ | PROT_WRITE, MAP_PRIVATE | MAP_ANONYMOUS, -1, 0);
         if (start == MAP_FAILED || mprotect(start + MOST_BYTES, FENCE, PROT_NONE) != 0)
             abort();
-        end = start + MOST_BYTES;
+        *end = start + MOST_BYTES;
     }
-    return length == 0 ? end : memcpy(end - length, bytes, length);
+    return length == 0 ? *end : memcpy(*end - length, bytes, length);
 }
 
 /* ---- one call each */
@@ -137,7 +140,7 @@ void try_points(uint32_t m, uint32_t p, uint32_t q, uint32_t first, size_t lengt
 void try_open(const uint8_t *bytes, size_t length)
 {
     uint32_t entries = 0, refusal = reference_open(bytes, length, &entries);
-    const uint8_t *file = fenced(bytes, length);
+    const uint8_t *file = fenced(0, bytes, length);
     FenyurkaCatalogue got = fenyurka_open(file, length);
     SAME(OPEN, refusal, got.refusal == refusal && got.entries == entries && memcmp(file, bytes, length) == 0, length);
 }
@@ -146,7 +149,7 @@ void try_lookup(const uint8_t *bytes, size_t length, uint32_t m)
 {
     struct reference_body body = {0};
     uint32_t refusal = reference_lookup(bytes, length, m, &body);
-    const uint8_t *file = fenced(bytes, length);
+    const uint8_t *file = fenced(0, bytes, length);
     FenyurkaBody got = fenyurka_lookup(file, length, m);
     int agrees = got.refusal == refusal && got.top == body.top && got.rows == body.rows && got.row_size == body.row_size
                  && got.offset == body.offset && got.length == body.length && memcmp(file, bytes, length) == 0;
@@ -157,13 +160,67 @@ int try_row(const uint8_t *bytes, size_t length, uint32_t m, uint32_t top, size_
 {
     uint32_t row[LONGEST_ROW] = {0};
     size_t next = place;
-    const uint8_t *body = fenced(bytes, length);
+    const uint8_t *body = fenced(0, bytes, length);
     int found = reference_row(bytes, length, m, top, place, row, &next);
     FenyurkaRow got = fenyurka_row((FenyurkaList){.degree = m, .top = top}, body, length, place);
     int agrees = got.count == (found ? top + 1 : 0) && got.next == next && memcmp(got.numbers, row, sizeof row) == 0
                  && memcmp(body, bytes, length) == 0;
     SAME(found ? ROW : END, 0, agrees, length, m, top, place);
     return found;
+}
+
+/* Whether the library's own calls read a file that was written for these numbers as the same degrees, T and rows. */
+static int read_back(const uint32_t *numbers, size_t count, const uint8_t *file, size_t length)
+{
+    FenyurkaCatalogue opened = fenyurka_open(file, length);
+    int agrees = opened.refusal == 0 && opened.entries == count / 2;
+    for (uint32_t m = LEAST_DEGREE; m <= MOST_DEGREE; m++) {
+        size_t i = 0, all, place = 0;
+        FenyurkaBody body = fenyurka_lookup(file, length, m);
+        while (i < count && numbers[i] != m)
+            i += 2;
+        if (i == count) {
+            agrees &= body.refusal == 10;
+            continue;
+        }
+        uint32_t top = numbers[i + 1], width = top + 1;
+        const uint32_t *list = reference_list(m, top, &all);
+        agrees &= body.refusal == 0 && body.top == top && body.rows == all;
+        for (size_t r = 0; agrees && r <= all; r++) {
+            FenyurkaRow row = fenyurka_row((FenyurkaList){.degree = m, .top = top}, file + body.offset, body.length, place);
+            agrees = row.count == (r < all ? width : 0) && memcmp(row.numbers, list + r * width, row.count * sizeof list[0]) == 0;
+            place = row.next;
+        }
+    }
+    return agrees;
+}
+
+static size_t longest_file;
+
+/* The buffer and bytes in front of it hold marks before the call; the numbers stand elsewhere; both end where nobody may read. */
+void try_write(const uint32_t *numbers, size_t count, size_t length)
+{
+    static uint8_t marked[MOST_BYTES];
+    const uint8_t *file = NULL;
+    size_t file_length = 0, size = count * sizeof numbers[0];
+    uint32_t refusal = reference_write(numbers, count, length, &file, &file_length), mark = draw();
+    for (size_t i = 0; i < AROUND + length; i++)
+        marked[i] = (uint8_t)((mark + (uint32_t)i * 0x9E3779B9u) >> 24);
+    uint8_t *buffer = (uint8_t *)fenced(0, marked, AROUND + length) + AROUND;
+    const uint32_t *entries = fenced(1, numbers, size);
+    FenyurkaFile got = fenyurka_write(entries, count, buffer, length);
+    if (refusal == 0)
+        memcpy(marked + AROUND, file, file_length);
+    int agrees = got.refusal == refusal && got.length == file_length && memcmp(buffer - AROUND, marked, AROUND + length) == 0
+                 && memcmp(entries, numbers, size) == 0;
+    uint64_t asked[1 + 2 * MOST_ENTRIES + 1] = {length};
+    int n = 1;
+    for (size_t i = 0; i < count && i <= 2 * MOST_ENTRIES; i++)
+        asked[n++] = numbers[i];
+    same(WRITE, refusal, agrees, asked, n);
+    longest_file = got.length > longest_file ? got.length : longest_file;
+    if (refusal == 0)
+        same(READ_BACK, 0, read_back(numbers, count, buffer, file_length), asked, n);
 }
 
 /* Walks from the start to the end by the library's own answers, with buffers of `least` to `most` rows: the joined rows are the list. */
@@ -194,16 +251,18 @@ void try_walk(uint32_t m, uint32_t top, uint32_t least, uint32_t most)
 
 int report(void)
 {
-    printf("%-20s %10s   of them refused with 1 .. 10\n", "compared", "calls");
+    printf("%-20s %10s   of them refused with 1 .. %d\n", "compared", "calls", MOST_REFUSAL);
     for (int c = 0; c < CALLS; c++) {
         unsigned long sum = 0;
-        for (int a = 0; a <= 10; a++)
+        for (int a = 0; a <= MOST_REFUSAL; a++)
             sum += answered[c][a];
         printf("%-20s %10lu  ", names[c], sum);
-        for (int a = 1; a <= 10; a++)
+        for (int a = 1; a <= MOST_REFUSAL; a++)
             printf(" %lu", answered[c][a]);
         printf("\n");
     }
+    printf("longest file %zu bytes, the header says %d\n", longest_file, FENYURKA_LONGEST_FILE);
+    differing += longest_file != FENYURKA_LONGEST_FILE;
     printf("differences %lu\n", differing);
     return differing != 0;
 }

@@ -27,10 +27,13 @@ void try_open(const uint8_t *bytes, size_t length);
 void try_lookup(const uint8_t *bytes, size_t length, uint32_t m);
 /* Whether there is a row at the place. */
 int try_row(const uint8_t *bytes, size_t length, uint32_t m, uint32_t top, size_t place);
+/* Writes a file into a buffer of this length, and reads it back. */
+void try_write(const uint32_t *numbers, size_t count, size_t length);
 
-/* Catalogues whole and damaged; readers over any bytes. */
+/* Catalogues whole and damaged; readers over any bytes; files written for lawful and faulty requests. */
 void catalogues(unsigned rounds);
 void readers(unsigned rounds);
+void writers(unsigned rounds);
 
 /* Prints what was compared and how often; 1 where anything differed. */
 int report(void);

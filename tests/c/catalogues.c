@@ -1,4 +1,4 @@
-/* Which catalogues and readers are compared: whole, damaged, made by hand. */
+/* Which catalogues, readers and writers are compared: whole, damaged, made by hand; asked for rightly and wrongly. */
 #include "calls.h"
 #include "reference.h"
 
@@ -141,4 +141,145 @@ void readers(unsigned rounds)
             top = extremes[below(EXTREMES)];
         try_row(file, length, m, top, place);
     }
+}
+
+/* ---- writing */
+
+enum { MOST_NUMBERS = 1200 };
+
+/* How long the buffer is: as the file, one byte less, one more, empty, or anything. */
+enum room { EXACT, ONE_SHORT, ONE_LONG, EMPTY, ANY, ROOMS };
+
+static void write_into(enum room room, const uint32_t *numbers, size_t count)
+{
+    const uint8_t *written;
+    size_t length = 1 + below(200);
+    reference_write(numbers, count, MOST_BYTES, &written, &length);
+    const size_t lengths[ROOMS] = {length, length - 1, length + 1, 0, below(2 * (uint32_t)length + 20)};
+    try_write(numbers, count, lengths[room]);
+}
+
+static void write_into_all(const uint32_t *numbers, size_t count)
+{
+    for (int room = 0; room < ROOMS; room++)
+        write_into(room, numbers, count);
+}
+
+/* Each degree alone, with every T; small files with a buffer of every length. */
+static void write_singly(void)
+{
+    for (uint32_t m = LEAST_DEGREE; m <= 10; m++)
+        for (uint32_t top = LEAST_TOP; top <= MOST_TOP; top++) {
+            const uint32_t numbers[2] = {m, top};
+            write_into_all(numbers, 2);
+            for (size_t length = 0; m <= 5 && length <= 160; length++)
+                try_write(numbers, 2, length);
+        }
+}
+
+/* All requests of up to `most` numbers out of n. */
+static void write_all_of(const uint32_t *values, size_t n, size_t most)
+{
+    size_t requests = 1;
+    for (size_t count = 0; count <= most; count++, requests *= n)
+        for (size_t k = 0; k < requests; k++) {
+            uint32_t numbers[8];
+            for (size_t i = 0, rest = k; i < count; i++, rest /= n)
+                numbers[i] = values[rest % n];
+            write_into(below(ROOMS), numbers, count);
+        }
+}
+
+/* A lawful request for some of the degrees from `least` to `most`; how many numbers it has. */
+static size_t draw_request(uint32_t *numbers, uint32_t least, uint32_t most)
+{
+    size_t count = 0;
+    uint32_t set = below(3) ? draw() : draw() & draw();
+    for (uint32_t m = least; m <= most; m++)
+        if (set >> m & 1) {
+            numbers[count++] = m;
+            numbers[count++] = LEAST_TOP + below(6);
+        }
+    return count;
+}
+
+/* A number that is seldom a lawful degree or T, or one that is so only in its low bytes; no degree that takes long. */
+static uint32_t draw_wrong(void)
+{
+    uint32_t wrong = extremes[below(EXTREMES)];
+    if (below(3) == 0)
+        return 3 + below(6) + (below(2) ? 256 : 65536) * (1 + below(200));
+    return 10 < wrong && wrong <= MOST_DEGREE ? 0 : wrong;
+}
+
+/* Makes one mistake in a request that has at least one entry; how many numbers it has now. */
+static size_t spoil(uint32_t *numbers, size_t count)
+{
+    size_t entries = count / 2, one = 2 * below((uint32_t)entries), other = 2 * below((uint32_t)entries), more;
+    uint32_t kept = numbers[one];
+    switch (below(7)) {
+    case 0:
+        numbers[one] = draw_wrong();
+        return count;
+    case 1:
+        numbers[one + 1] = draw_wrong();
+        return count;
+    case 2: /* the last T is missing */
+        return 2 * entries - 1;
+    case 3: /* a further entry without its T, perhaps of a wrong degree */
+        numbers[2 * entries] = below(2) ? draw_wrong() : numbers[0];
+        return 2 * entries + 1;
+    case 4: /* a degree twice */
+        numbers[one] = numbers[other];
+        return count;
+    case 5: /* degrees change places */
+        numbers[one] = numbers[other];
+        numbers[other] = kept;
+        return count;
+    default: /* too many entries, at times so many that their count is lawful in its low byte */
+        more = 2 * (MOST_ENTRIES + 1 + below(below(2) ? 300 : 5));
+        for (size_t i = count; i < more; i++)
+            numbers[i] = i % 2 ? LEAST_TOP + below(6) : LEAST_DEGREE + below(15);
+        return more < count ? count : more;
+    }
+}
+
+/* Files of high degrees: few, as each search takes long. */
+static void write_high(void)
+{
+    uint32_t numbers[2 * MOST_ENTRIES];
+    for (uint32_t m = 11; m <= MOST_DEGREE; m++)
+        for (uint32_t top = LEAST_TOP; top <= MOST_TOP; top += m < 13 ? 1 : 5) {
+            numbers[0] = m;
+            numbers[1] = top;
+            write_into(below(2) ? EXACT : ONE_LONG, numbers, 2);
+            write_into(below(2) ? ONE_SHORT : EMPTY, numbers, 2);
+        }
+    for (int i = 0; i < 40; i++)
+        write_into(i % ROOMS, numbers, draw_request(numbers, LEAST_DEGREE, i < 36 ? 13 : MOST_DEGREE));
+    for (int kind = 0; kind < 3; kind++) {
+        for (uint32_t i = 0; i < MOST_ENTRIES; i++) {
+            numbers[2 * i] = LEAST_DEGREE + i;
+            numbers[2 * i + 1] = kind == 0 ? LEAST_TOP + below(6) : kind == 1 ? LEAST_TOP : MOST_TOP;
+        }
+        write_into(kind == 0 ? ONE_LONG : EXACT, numbers, 2 * MOST_ENTRIES);
+        write_into(ONE_SHORT, numbers, 2 * MOST_ENTRIES);
+    }
+}
+
+void writers(unsigned rounds)
+{
+    static const uint32_t ten[10] = {0, 1, 2, 3, 4, 8, 9, 17, 258, 0xFFFFFFFF}, six[6] = {1, 2, 3, 5, 6, 9};
+    static uint32_t numbers[MOST_NUMBERS];
+    write_singly();
+    write_all_of(ten, 10, 4);
+    write_all_of(six, 6, 6);
+    for (unsigned i = 0; i < rounds; i++) {
+        size_t count = draw_request(numbers, LEAST_DEGREE, below(10) ? 8 : 10);
+        write_into_all(numbers, count);
+        for (uint32_t faults = 1 + below(3); faults > 0 && count > 1; faults--)
+            count = spoil(numbers, count);
+        write_into(below(ROOMS), numbers, count);
+    }
+    write_high();
 }

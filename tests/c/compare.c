@@ -186,6 +186,8 @@ int main(int argc, char **argv)
     part("catalogues, whole and damaged");
     catalogues(400);
     readers(20000);
+    part("files written, of lawful and of faulty requests");
+    writers(3000);
     part("random pairs, first indices and buffers to degree 16");
     random_pairs(8000);
     random_points(3000);

@@ -1,5 +1,6 @@
-/* Compares the reference with figures printed elsewhere: the examples of document 01, and Tables 1 and 2 of document 001 for m = 10 to
-   16, typed from their pages. Prints each comparison; exit status 1 where one fails that is not noted. */
+/* Compares the reference with figures printed elsewhere: the examples of document 01, the order of the writer's refusals in document
+   02, and Tables 1 and 2 of document 001 for m = 10 to 16, typed from their pages. Prints each comparison; exit status 1 where one
+   fails that is not noted. */
 #include "reference.h"
 
 #include <inttypes.h>
@@ -95,6 +96,34 @@ static void catalogue(void)
         hold("row's numbers", memcmp(row, list + 5 * r, 5 * sizeof row[0]) != 0, 0);
     }
     hold("end", (uint32_t)reference_row(file + body.offset, body.length, 3, body.top, place, row, &place), 0);
+
+    static const uint32_t entries_of_file[2] = {3, 4};
+    const uint8_t *written;
+    size_t length = 0;
+    hold("write 3 4", reference_write(entries_of_file, 2, sizeof file, &written, &length), 0);
+    hold("its bytes", length != sizeof file || memcmp(written, file, sizeof file) != 0, 0);
+    hold("write 3 4 into 40 bytes", reference_write(entries_of_file, 2, sizeof file - 1, &written, &length), 14);
+    hold("write nothing", reference_write(entries_of_file, 0, 1, &written, &length), 0);
+    hold("its byte", length != 1 || written[0] != 0, 0);
+    hold("write nothing into nothing", reference_write(entries_of_file, 0, 0, &written, &length), 14);
+}
+
+/* Document 02: 1 if any entry has a wrong degree, then 2 if any has a wrong or missing T, then 13, then 14. */
+static void writing(void)
+{
+    static const struct {
+        uint32_t refusal;
+        size_t count;
+        uint32_t numbers[6];
+    } cases[] = {
+        {1, 6, {3, 9, 3, 3, 17, 3}}, {1, 5, {3, 9, 3, 3, 1}}, {2, 6, {5, 3, 3, 3, 6, 9}}, {2, 5, {5, 3, 3, 3, 6}}, {2, 1, {3}},
+        {13, 4, {5, 3, 3, 3}},       {13, 4, {3, 3, 3, 4}},   {13, 6, {3, 3, 6, 4, 5, 3}}, {14, 4, {3, 3, 5, 3}},   {1, 1, {0}},
+    };
+    for (size_t i = 0; i < sizeof cases / sizeof cases[0]; i++) {
+        const uint8_t *written;
+        size_t length;
+        hold("writing", reference_write(cases[i].numbers, cases[i].count, 0, &written, &length), cases[i].refusal);
+    }
 }
 
 /* A line of Table 1: m, its coefficients lowest first, the step; and of Table 2: t(2) .. t(8). */
@@ -156,6 +185,7 @@ int main(void)
     pages();
     words();
     catalogue();
+    writing();
     tables();
     printf("figures: %lu held, %lu failed\n", held, failed);
     return failed != 0;

@@ -5,7 +5,7 @@
 #include <stddef.h>
 #include <stdint.h>
 
-enum { LEAST_DEGREE = 2, MOST_DEGREE = 16, LEAST_TOP = 3, MOST_TOP = 8, MOST_DIMENSION = 8, LONGEST_ROW = 9 };
+enum { LEAST_DEGREE = 2, MOST_DEGREE = 16, LEAST_TOP = 3, MOST_TOP = 8, MOST_DIMENSION = 8, LONGEST_ROW = 9, MOST_ENTRIES = 15 };
 
 static inline int lawful_degree(uint32_t m)
 {
@@ -46,5 +46,9 @@ uint32_t reference_lookup(const uint8_t *file, size_t length, uint32_t degree, s
 
 /* 1 where a reader has a row at the place, which is then in `row`, top + 1 numbers; 0 at the end. */
 int reference_row(const uint8_t *body, size_t length, uint32_t degree, uint32_t top, size_t place, uint32_t *row, size_t *next);
+
+/* The catalogue of the ranked lists that the numbers degree, T, degree, T, .. ask for, for a buffer of `room` bytes. Where no refusal,
+   *file is the whole file, kept until the next call. */
+uint32_t reference_write(const uint32_t *numbers, size_t count, size_t room, const uint8_t **file, size_t *length);
 
 #endif

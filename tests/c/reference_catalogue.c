@@ -1,4 +1,4 @@
-/* Document 01 in plain C, slow and literal: the catalogue, its form, a lookup and the reader. */
+/* Documents 01 and 02 in plain C, slow and literal: the catalogue, its form, a lookup, the reader and the writer. */
 #include "reference.h"
 
 static uint32_t number_at(const uint8_t *bytes, size_t place, int width)
@@ -82,4 +82,61 @@ int reference_row(const uint8_t *body, size_t length, uint32_t m, uint32_t top, 
         row[s] = body[place + 6 + s - LEAST_TOP];
     *next = place + size;
     return 1;
+}
+
+/* ---- writing */
+
+static uint8_t written[1 << 17];
+static size_t written_length;
+
+/* Puts a number behind what is written, the highest byte first. */
+static void append(uint32_t number, int width)
+{
+    for (int i = width - 1; i >= 0; i--)
+        written[written_length++] = (uint8_t)(number >> 8 * i);
+}
+
+static void append_body(uint32_t m, uint32_t top)
+{
+    size_t rows;
+    const uint32_t *row = reference_list(m, top, &rows);
+    for (size_t r = 0; r < rows; r++, row += top + 1) {
+        append(row[0] - ((uint32_t)1 << m), 2);
+        append(row[1], 2);
+        append(row[2], 2);
+        for (uint32_t s = LEAST_TOP; s <= top; s++)
+            append(row[s], 1);
+    }
+}
+
+uint32_t reference_write(const uint32_t *numbers, size_t count, size_t room, const uint8_t **file, size_t *length)
+{
+    for (size_t i = 0; i < count; i += 2)
+        if (!lawful_degree(numbers[i]))
+            return 1;
+    for (size_t i = 0; i < count; i += 2)
+        if (i + 1 == count || !lawful_top(numbers[i + 1]))
+            return 2;
+    for (size_t i = 2; i < count; i += 2)
+        if (numbers[i - 2] >= numbers[i])
+            return 13;
+    size_t offset = 1 + 8 * (count / 2);
+    written_length = 0;
+    append((uint32_t)count / 2, 1);
+    for (size_t i = 0; i < count; i += 2) {
+        size_t rows;
+        reference_list(numbers[i], numbers[i + 1], &rows);
+        append(numbers[i], 1);
+        append(numbers[i + 1], 1);
+        append((uint32_t)rows, 2);
+        append((uint32_t)offset, 4);
+        offset += rows * (numbers[i + 1] + 4);
+    }
+    for (size_t i = 0; i < count; i += 2)
+        append_body(numbers[i], numbers[i + 1]);
+    if (written_length > room)
+        return 14;
+    *file = written;
+    *length = written_length;
+    return 0;
 }

@@ -1,5 +1,6 @@
--- The calls with a lent slice, pages and points: what they answer and leave is one statement, `Answered`, over their situations; and what a page or
--- words that are given, or a refusal, say of both. From the laws of answer and slice together. Assumes nothing.
+-- The calls that write into a lent slice, pages, points and catalogues: what they answer and leave is one statement, `Answered`, over their
+-- situations; and what a page, words or a file that is given, or a refusal, say of both. From the laws of answer and slice together.
+-- Assumes nothing.
 use mathlib.Core.Path.{_≡_, refl}
 use mathlib.Core.Bool.{Bool}
 use mathlib.Core.List.{List}
@@ -9,12 +10,15 @@ use lib.ListN.{length}
 use Rattle.definitions.specs.Number.{join, over}
 use Rattle.definitions.specs.Points.{words}
 use Rattle.definitions.specs.Calls.{paging, pageRows, furtherRow, pageAnswer, pageSlice, pointing, wordCount, pointsAnswer, pointsSlice}
+use Rattle.definitions.specs.Writing.{entriesOf, rankedFile, writing, fileAnswer, fileBuffer}
 use Rattle.definitions.specs.declared.Refusal.{Refusal}
 use Rattle.definitions.specs.declared.PageRequest.{PageRequest}
 use Rattle.definitions.specs.declared.PageAnswer.{PageAnswer}
 use Rattle.definitions.specs.declared.PageAnswer.the-variants.{Page, NoPage}
 use Rattle.definitions.specs.declared.PointsAnswer.{PointsAnswer}
 use Rattle.definitions.specs.declared.PointsAnswer.the-variants.{Written, NotWritten}
+use Rattle.definitions.specs.declared.FileAnswer.{FileAnswer}
+use Rattle.definitions.specs.declared.FileAnswer.the-variants.{File, NoFile}
 use Rattle.answer_laws.specs.Unless.{NoneApplies}
 use Rattle.answer_laws.specs.Together.{Answered, refused-keeps, given-writes}
 
@@ -67,5 +71,33 @@ module _ (m p q first : ℕ) (s : List ℕ) where
       → NoneApplies (pointing m p q first) × (wordCount m first s ≡ n) × (pointsSlice m p q first s ≡ over 0 (words p q first (wordCount m first s)) s)
   points-given e =
       let g = given-writes points-answered (λ k d. let z : _≡_ {A = ℕ} 0 1 = cc in omega arith) e in
+      let f = g .1 in
+      (g .0, (cc), g .2)
+
+-- ---- a catalogue
+
+module _ (entries s : List ℕ) where
+  abbrev file : List ℕ
+  file = rankedFile (entriesOf entries)
+
+  abbrev pub AnsweredFile : FileAnswer → List ℕ → Type 0
+  AnsweredFile = Answered (writing entries s) NoFile (File (length file)) s (over 0 file s)
+
+  pub file-answered : AnsweredFile (fileAnswer entries s) (fileBuffer entries s)
+  unfolding fileAnswer fileBuffer
+  file-answered = record { answer = refl; slice = refl }
+
+  pub answers-file : {a : FileAnswer} {t : List ℕ} → AnsweredFile a t → (a ≡ fileAnswer entries s) × (t ≡ fileBuffer entries s)
+  unfolding fileAnswer fileBuffer
+  answers-file x = (x .answer, x .slice)
+
+  -- A refused call leaves the buffer as it was.
+  pub file-keeps : {n : Refusal} → fileAnswer entries s ≡ NoFile n → fileBuffer entries s ≡ s
+  file-keeps = refused-keeps file-answered (λ e. let z : _≡_ {A = ℕ} 0 1 = cc in omega arith)
+
+  -- A file that is given: no situation applies, its length is that of the file, and the file stands over the front of the buffer.
+  pub file-given : {n : ℕ} → fileAnswer entries s ≡ File n → NoneApplies (writing entries s) × (length file ≡ n) × (fileBuffer entries s ≡ over 0 file s)
+  file-given e =
+      let g = given-writes file-answered (λ k d. let z : _≡_ {A = ℕ} 0 1 = cc in omega arith) e in
       let f = g .1 in
       (g .0, (cc), g .2)

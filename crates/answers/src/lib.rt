@@ -1,4 +1,4 @@
-// The number of a refusal, as document 01's table has it.
+// The number of a refusal, as documents 01 and 02 have it.
 use definitions::Refusal;
 ghost use mathlib.Core.Path.{_≡_};
 ghost use Rattle.definitions.specs.Answers.{refusalNumber};
@@ -17,5 +17,7 @@ pub fn refusal_number(refusal: Refusal) -> u32
         Refusal::BeyondPeriod => 8,
         Refusal::IllFormedCatalogue => 9,
         Refusal::DegreeMissing => 10,
+        Refusal::NotAscending => 13,
+        Refusal::FileTooLong => 14,
     }
 }

@@ -7,7 +7,7 @@ ghost use mathlib.Core.Path.{_≡_};
 ghost use Rattle.definitions.specs.Catalogue.{catalogueForm};
 
 // As many as there are lawful degrees.
-const MOST_ENTRIES: usize = (limits::LARGEST_DEGREE - limits::LEAST_DEGREE + 1) as usize;
+pub const MOST_ENTRIES: usize = (limits::LARGEST_DEGREE - limits::LEAST_DEGREE + 1) as usize;
 
 pub fn catalogue_form(s: &[u8]) -> bool
     ensures { λ r. ⌜ r ≡ catalogueForm (now (s .entry)) ⌝ }

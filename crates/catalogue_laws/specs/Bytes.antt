@@ -9,7 +9,7 @@ use native.Mathlib.Omega.{arith}
 use lib.ListN.{length, getD, take, drop, length-append, List·getD-append}
 use lib.Seq.{getD-append-add, take-at, drop-at}
 use Rattle.definitions.specs.Catalogue.{byteAt, numberAt}
-use Rattle.catalogue_laws.specs.Encoding.{bytesOf}
+use Rattle.definitions.specs.Writing.{bytesOf}
 
 -- ---- parts
 

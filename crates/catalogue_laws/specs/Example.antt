@@ -10,7 +10,7 @@ use Rattle.definitions.specs.Answers.{unless, nextRowValues}
 use Rattle.definitions.specs.Catalogue.{numberAt, numberSize, countSize, entrySize, rowSize, entryAt, behindEntries, rowForm, entryForm, entriesForm}
 use Rattle.definitions.specs.Catalogue.{catalogueForm, opening, entryFrom, entryOf, looking, lookupNumbers, lookupPart, readerTop, atRow, rowAt, nextRow}
 use Rattle.definitions.specs.Catalogue.{nextPlace}
-use Rattle.catalogue_laws.specs.Encoding.{bytesOf, rowBytes, bodyBytes, entryBytes, contentsBytes, behindLists, catalogueBytes}
+use Rattle.definitions.specs.Writing.{bytesOf, rowBytes, bodyBytes, entryBytes, contentsBytes, behindLists, catalogueBytes}
 use Rattle.definitions.specs.declared.Opening.the-variants.{Entries}
 use Rattle.definitions.specs.declared.Lookup.the-variants.{Body}
 use Rattle.catalogue_laws.specs.Reader.{handsOut}

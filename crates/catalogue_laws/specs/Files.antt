@@ -16,7 +16,7 @@ use Rattle.definitions.specs.Catalogue.{contentsEnd, mostEntries, bodySize, row
 use Rattle.number_laws.specs.Bounds.{LawfulDegree, LawfulTop, lawfulDegree-is, lawfulTop-is}
 use Rattle.number_laws.specs.Every.{every-in}
 use Rattle.catalogue_laws.specs.Sizes.{longestEntry, longestRowSize, longestBody, count-most, entry-size-is, entry-size-most, row-size-most}
-use Rattle.catalogue_laws.specs.Encoding.{bytesOf, Listed, bodyBytes, entryBytes, contentsBytes, behindLists, catalogueBytes}
+use Rattle.definitions.specs.Writing.{bytesOf, Listed, bodyBytes, entryBytes, contentsBytes, behindLists, catalogueBytes}
 use Rattle.catalogue_laws.specs.Form.{entry-rows, catalogue-entries}
 use Rattle.catalogue_laws.specs.Bytes.{Stands, stands-first, stands-rest, stands-whole, stands-byte, stands-number, bytes-length}
 use Rattle.catalogue_laws.specs.Written.{LawfulRows, row-written-form, rows-length, rows-stand}
@@ -52,7 +52,7 @@ lists-few none = omega arith
 lists-few (more a h f) = omega (arith, h .lawful-degree .low, lists-most (h .lawful-degree .high) f)
 
 -- The rows of a list are few and short.
-body-most : (l : Listed) → LawfulListed l → length (bodyBytes l) ≤ longestBody
+pub body-most : (l : Listed) → LawfulListed l → length (bodyBytes l) ≤ longestBody
 body-most l h =
     let size = row-size-most (l .degree) (l .top) (h .lawful-top .high) in
     let most : length (l .rows) * rowSize (l .degree) (l .top) ≤ length (l .rows) * longestRowSize = mul-le-mul-left (length (l .rows)) size in
@@ -62,11 +62,11 @@ bodies-most : {last : ℕ} {ls : List Listed} → LawfulLists last ls → length
 bodies-most none = omega arith
 bodies-most {ls = l ∷ ls} (more a h f) = omega (arith, bodies-most f, body-most l h, length-append (bodyBytes l) (bodiesBytes ls))
 
-entry-length : (l : Listed) (offset : ℕ) → length (entryBytes l offset) ≡ entrySize (l .degree)
+pub entry-length : (l : Listed) (offset : ℕ) → length (entryBytes l offset) ≡ entrySize (l .degree)
 unfolding entryBytes
 entry-length l offset = simp (length-append, bytes-length) (omega (arith, entry-size-is (l .degree)))
 
-contents-length : (ls : List Listed) (at i : ℕ) → i + length (contentsBytes ls at) ≡ behindLists ls i
+pub contents-length : (ls : List Listed) (at i : ℕ) → i + length (contentsBytes ls at) ≡ behindLists ls i
 unfolding contentsBytes behindLists
 contents-length [] at i = omega arith
 contents-length (l ∷ ls) at i =
@@ -215,7 +215,7 @@ module _ (ls : List Listed) (h : LawfulLists 0 ls) where
   abbrev contents : List ℕ
   contents = contentsBytes ls start
 
-  catalogue-length : length (catalogueBytes ls) ≡ start + length (bodiesBytes ls)
+  pub catalogue-length : length (catalogueBytes ls) ≡ start + length (bodiesBytes ls)
   unfolding catalogueBytes
   catalogue-length = omega (arith, length-append contents (bodiesBytes ls), contents-length ls start firstEntry)
 

@@ -7,7 +7,6 @@ pub mod Lookup
 pub mod Missing
 pub mod Outcome
 pub mod Reader
-pub mod Encoding
 pub mod Bytes
 pub mod Rows
 pub mod Written

@@ -15,7 +15,7 @@ use Rattle.definitions.specs.declared.NextRow.the-variants.{Found, End}
 use Rattle.definitions.specs.declared.Opening.the-variants.{Entries}
 use Rattle.definitions.specs.declared.Lookup.the-variants.{Body}
 use Rattle.number_laws.specs.Bounds.{lawfulDegree-is}
-use Rattle.catalogue_laws.specs.Encoding.{rowBytes, Listed, bodyBytes, behindLists, catalogueBytes}
+use Rattle.definitions.specs.Writing.{rowBytes, Listed, bodyBytes, behindLists, catalogueBytes}
 use Rattle.catalogue_laws.specs.Rows.{rowOf}
 use Rattle.catalogue_laws.specs.Form.{entry-at-degree}
 use Rattle.catalogue_laws.specs.Lookup.{entry-of, look-stop, look-behind, opening-entries}

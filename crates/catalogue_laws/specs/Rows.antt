@@ -8,7 +8,7 @@ use lib.ListN.{length, take, getD}
 use Rattle.definitions.specs.Answers.{rowNumbers}
 use Rattle.definitions.specs.Ranking.{largestTop, longestRow}
 use Rattle.definitions.specs.declared.Row.{Row}
-use Rattle.catalogue_laws.specs.Encoding.{pOf, qOf, stepOf}
+use Rattle.definitions.specs.Writing.{pOf, qOf, stepOf}
 
 -- The T + 1 numbers of a row.
 abbrev pub numbersUpTo : ℕ → Row → List ℕ

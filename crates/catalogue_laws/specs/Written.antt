@@ -17,7 +17,7 @@ use Rattle.definitions.specs.Catalogue.{byteAt, numberAt, numberSize, numbersSi
 use Rattle.number_laws.specs.Bounds.{LawfulDegree, LawfulTop}
 use Rattle.number_laws.specs.Every.{every-in}
 use Rattle.catalogue_laws.specs.Sizes.{number-fits, row-size-is}
-use Rattle.catalogue_laws.specs.Encoding.{bytesOf, pOf, qOf, stepOf, rowBytes}
+use Rattle.definitions.specs.Writing.{bytesOf, pOf, qOf, stepOf, rowBytes}
 use Rattle.catalogue_laws.specs.Rows.{rowOf}
 use Rattle.catalogue_laws.specs.Form.{numbersForm, row-values}
 use Rattle.catalogue_laws.specs.Reading.{t-above, t-within}

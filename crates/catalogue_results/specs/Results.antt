@@ -15,6 +15,7 @@ use Rattle.results.specs.Results.{value}
 use Rattle.catalogue_results.specs.declared.FenyurkaCatalogue.{FenyurkaCatalogue}
 use Rattle.catalogue_results.specs.declared.FenyurkaBody.{FenyurkaBody}
 use Rattle.catalogue_results.specs.declared.FenyurkaRow.{FenyurkaRow}
+use Rattle.catalogue_results.specs.declared.FenyurkaFile.{FenyurkaFile}
 
 abbrev pub catalogueResult : List ℕ → FenyurkaCatalogue
 catalogueResult values = record { refusal = value values 0; entries = value values 1 }
@@ -31,3 +32,6 @@ rowResult values top next = record {
   next = next;
   numbers = map (value values) (numbers 1 longestRow);
 }
+
+abbrev pub fileResult : List ℕ → FenyurkaFile
+fileResult values = record { refusal = value values 0; length = value values 1 }

@@ -1,10 +1,11 @@
-// Answers about catalogues as structs that C takes by value: an opening, a degree's body, a row of one.
+// Answers about catalogues as structs that C takes by value: an opening, a degree's body, a row of one; a file that was written.
 use catalogue::seek::Located;
+use definitions::FileAnswer;
 use definitions::NextRow;
 use definitions::Opening;
 ghost use mathlib.Core.Path.{_≡_};
-ghost use Rattle.definitions.specs.Answers.{openingValues, nextRowValues};
-ghost use Rattle.catalogue_results.specs.Results.{catalogueResult, bodyResult, rowResult};
+ghost use Rattle.definitions.specs.Answers.{openingValues, nextRowValues, fileValues};
+ghost use Rattle.catalogue_results.specs.Results.{catalogueResult, bodyResult, rowResult, fileResult};
 
 // How many degrees a catalogue has.
 #[repr(C)]
@@ -93,6 +94,25 @@ pub fn row(answer: NextRow, top: u32, next: usize) -> FenyurkaRow
             count: 0,
             next,
             numbers: [0; limits::LONGEST_ROW],
+        },
+    }
+}
+
+// How many bytes were written.
+#[repr(C)]
+pub struct FenyurkaFile {
+    pub refusal: u32,
+    pub length: usize,
+}
+
+pub fn file(answer: FileAnswer) -> FenyurkaFile
+    ensures { λ r. ⌜ r ≡ fileResult (fileValues answer) ⌝ }
+{
+    match answer {
+        FileAnswer::File(length) => FenyurkaFile { refusal: 0, length },
+        FileAnswer::NoFile(refusal) => FenyurkaFile {
+            refusal: answers::refusal_number(refusal),
+            length: 0,
         },
     }
 }

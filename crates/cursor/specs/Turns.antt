@@ -3,12 +3,13 @@
 use mathlib.Core.Path.{_≡_, refl, sym, ap, ap₂, _∙_}
 use mathlib.Core.Bool.{Bool, true, false, cond}
 use mathlib.Core.List.{List, [], _∷_, _++_, append-assoc, append-nil}
-use Prim.Native.Nat.{ℕ, suc, _/_, _<_, _≤_}
-use native.Mathlib.Nat.{le-div-iff-mul-le}
+use Prim.Native.Nat.{ℕ, suc, _*_, _/_, _<_, _≤_}
+use native.Mathlib.Nat.{le-div-iff-mul-le, div-mul-le-self, mul-le-mul-right}
 use native.Mathlib.Omega.{arith}
 use lib.ListN.{length, take, drop, length-drop, take-append-drop}
 use lib.Seq.{length-take-le}
 use borrow.Author.Tests.{ltb-true, ltb-false}
+use Rattle.definitions.specs.Number.{join}
 use Rattle.definitions.specs.Pages.{start, rest}
 use Rattle.definitions.specs.Ranking.{rowWidth, rowKey, ranked, cutOf}
 use Rattle.definitions.specs.declared.Selection.{Selection}
@@ -16,7 +17,8 @@ use Rattle.number_laws.specs.Truth.{by-test}
 use Rattle.number_laws.specs.Lists.{keep-out}
 use Rattle.page_laws.specs.Members.{take-within}
 use Rattle.page_laws.specs.Ascending.{rest-all}
-use Rattle.page_laws.specs.Rows.{rowsOf, Wide, rows-back}
+use Rattle.slice_laws.specs.Over.{length-over}
+use Rattle.page_laws.specs.Rows.{rowsOf, Wide, length-join, rows-back}
 use Rattle.ranking_laws.specs.Ranked.{ranked-ascends, ranked-wide}
 use Rattle.ranking_laws.specs.Reading.{at-start}
 use Rattle.search.specs.Frame.{LawfulList}
@@ -78,6 +80,19 @@ module _ {c : Cursor} {s t : List ℕ} {r : Portion} (h : Handed c s r t) where
   pub portion-back : OnList c → rowsOf (rowWidth (c .list)) (r .rows) t ≡ portion c r
   portion-back on =
       ap₂ (rowsOf (rowWidth (c .list))) (sym portion-length) (h .written) ∙ rows-back (rowWidth (c .list)) (portion c r) s (portion-wide on)
+
+  -- The portion's rows fit the slice, which stays as long as it was.
+  pub rows-fit : r .rows * rowWidth (c .list) ≤ length s
+  rows-fit =
+      let most = mul-le-mul-right {m = r .rows} {n = length s / rowWidth (c .list)} (rowWidth (c .list)) (omega (arith, h .count)) in
+      omega (arith, div-mul-le-self (length s) (rowWidth (c .list)))
+
+  pub slice-kept : OnList c → length t ≡ length s
+  slice-kept on =
+      let rows = portion c r in
+      let size : length (join rows) ≡ r .rows * rowWidth (c .list) =
+      length-join (rowWidth (c .list)) rows (portion-wide on) ∙ ap (λ (n : ℕ). n * rowWidth (c .list)) portion-length in
+      ap length (h .written) ∙ length-over 0 (join rows) s (omega (arith, rows-fit))
 
   pub turn-falls : rowWidth (c .list) ≤ length s → toGo (r .more) (r .next) < toGo true c
   turn-falls room =

@@ -2,10 +2,11 @@
 use Rattle.definitions.specs.Base.{Bool, true, false, List, [], _∷_, ℕ, Refusal, WrongDegree, WrongDimension, IllFormedPair, NotPrimitive}
 use Rattle.definitions.specs.Base.{QuotientNotLinear, StepNotCoprime, ShortSlice, BeyondPeriod, IllFormedCatalogue, DegreeMissing, Judgement}
 use Rattle.definitions.specs.Base.{Accepted, Rejected, Uniformity, Value, Undefined, PageAnswer, Page, NoPage, PointsAnswer, Written}
-use Rattle.definitions.specs.Base.{NotWritten, Opening, Entries, Closed, Lookup, Body, NoBody, Row, NextRow, Found, End}
+use Rattle.definitions.specs.Base.{NotWritten, Opening, Entries, Closed, Lookup, Body, NoBody, Row, NextRow, Found, End, NotAscending, FileTooLong}
+use Rattle.definitions.specs.Base.{FileAnswer, File, NoFile}
 use Rattle.definitions.specs.Number.{bit}
 
--- Document 01's number of each refusal.
+-- The number of each refusal, as documents 01 and 02 have it.
 abbrev pub refusalNumber : Refusal → ℕ
 refusalNumber WrongDegree = 1
 refusalNumber WrongDimension = 2
@@ -17,6 +18,8 @@ refusalNumber ShortSlice = 7
 refusalNumber BeyondPeriod = 8
 refusalNumber IllFormedCatalogue = 9
 refusalNumber DegreeMissing = 10
+refusalNumber NotAscending = 13
+refusalNumber FileTooLong = 14
 
 -- A situation, and the refusal that is given in it.
 pub record Situation : Type 0 where
@@ -64,3 +67,7 @@ rowNumbers r = r .p ∷ r .q ∷ r .step ∷ r .t3 ∷ r .t4 ∷ r .t5 ∷ r .t6
 abbrev pub nextRowValues : NextRow → List ℕ
 nextRowValues (Found r) = 0 ∷ rowNumbers r
 nextRowValues End = 0 ∷ []
+
+abbrev pub fileValues : FileAnswer → List ℕ
+fileValues (File n) = 0 ∷ n ∷ []
+fileValues (NoFile r) = refusalNumber r ∷ []

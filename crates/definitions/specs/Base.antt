@@ -15,6 +15,7 @@ pub use Rattle.definitions.specs.declared.PageRequest.{PageRequest}
 pub use Rattle.definitions.specs.declared.Refusal.{Refusal}
 pub use Rattle.definitions.specs.declared.Refusal.the-variants.{WrongDegree, WrongDimension, IllFormedPair, NotPrimitive, QuotientNotLinear}
 pub use Rattle.definitions.specs.declared.Refusal.the-variants.{StepNotCoprime, ShortSlice, BeyondPeriod, IllFormedCatalogue, DegreeMissing}
+pub use Rattle.definitions.specs.declared.Refusal.the-variants.{NotAscending, FileTooLong}
 pub use Rattle.definitions.specs.declared.Judgement.{Judgement}
 pub use Rattle.definitions.specs.declared.Judgement.the-variants.{Accepted, Rejected}
 pub use Rattle.definitions.specs.declared.Uniformity.{Uniformity}
@@ -30,5 +31,7 @@ pub use Rattle.definitions.specs.declared.Lookup.the-variants.{Body, NoB
 pub use Rattle.definitions.specs.declared.Row.{Row}
 pub use Rattle.definitions.specs.declared.NextRow.{NextRow}
 pub use Rattle.definitions.specs.declared.NextRow.the-variants.{Found, End}
+pub use Rattle.definitions.specs.declared.FileAnswer.{FileAnswer}
+pub use Rattle.definitions.specs.declared.FileAnswer.the-variants.{File, NoFile}
 pub use Rattle.definitions.specs.declared.Line.{Line}
 pub use Rattle.definitions.specs.declared.Line.the-variants.{Asked, Unreadable}

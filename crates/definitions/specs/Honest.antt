@@ -1,15 +1,18 @@
 -- Laws that keep the definitions honest: what a reader would check first. By the definitions' own cases. Assumes nothing.
-use Rattle.definitions.specs.Base.{Bool, true, false, List, ℕ, zero, suc, _+_, eqb, length}
-use mathlib.Core.Path.{_≡_}
+use Rattle.definitions.specs.Base.{Bool, true, false, List, [], _∷_, ℕ, zero, suc, _+_, eqb, length, drop, Refusal}
+use mathlib.Core.Path.{_≡_, refl, _∙_}
 use mathlib.Core.Bool.{and-eq-true-iff}
 use Prim.Native.Nat.{_≤_, _<_}
+use native.Mathlib.Nat.{zero-add}
 use native.Mathlib.Omega.{arith}
-use lib.Seq.{take-all, length-take-le}
+use lib.Seq.{take-all, drop-at, length-take-le}
 use borrow.Author.Tests.{ltb-true, ltb-false, eqb-true}
-use Rattle.definitions.specs.Number.{first, all}
+use Rattle.definitions.specs.Number.{first, all, over}
+use Rattle.definitions.specs.Answers.{refusalNumber, Situation, unless}
 use Rattle.definitions.specs.Generator.{expansion, linear, linearQuotients}
 use Rattle.definitions.specs.Net.{isNet, tValue}
 use Rattle.definitions.specs.Pages.{Cut, rest, page, more}
+use Rattle.definitions.specs.Writing.{entriesOf, rankedFile, lawfulDegrees, lawfulTops, ascending, entering, writing, fileBuffer}
 
 -- A page that says that nothing follows has every row above its cut.
 pub end-has-all : {X : Type 0} (key : X → List ℕ) (at : Cut) (k : ℕ) (l : List X) → more key at k l ≡ false → page key at k l ≡ rest key at l
@@ -42,3 +45,28 @@ first-at-most (suc n) a test = go (test a) (first-at-most n (suc a) test)
 pub t-value-at-most : (m p q s : ℕ) → tValue m p q s ≤ m
 unfolding tValue
 t-value-at-most m p q s = omega (arith, first-at-most m 0 (isNet m p q s))
+
+-- What holds of each refusal and of the value holds of the answer.
+either-way : {A : Type 0} (P : A → Type 0) (l : List Situation) (refuse : Refusal → A) (value : A) → ((r : Refusal) → P (refuse r)) → P value
+    → P (unless l refuse value)
+unfolding unless
+either-way P [] refuse value refused given = given
+either-way P (s ∷ l) refuse value refused given = go (s .applies) (either-way P l refuse value refused given)
+  where
+    go : (b : Bool) → P (unless l refuse value) → P (elim b [ true ↦ refuse (s .refusal) | false ↦ unless l refuse value ])
+    go true ih = refused (s .refusal)
+    go false ih = ih
+
+-- Writing a file leaves the bytes behind it as they were.
+pub tail-stays : (e s : List ℕ) → drop (length (rankedFile (entriesOf e))) (fileBuffer e s) ≡ drop (length (rankedFile (entriesOf e))) s
+unfolding fileBuffer over
+tail-stays e s =
+    let file = rankedFile (entriesOf e) in
+    let n = length file in
+    either-way (λ (t : List ℕ). drop n t ≡ drop n s) (writing e s) (λ (r : Refusal). s) (over 0 file s) (λ r. refl)
+    (drop-at file (drop (0 + n) s) n refl ∙ rw zero-add)
+
+-- Where a T is wrong and the degrees do not ascend, the T decides.
+pub top-before-order : unless (entering (entriesOf (5 ∷ 4 ∷ 3 ∷ 9 ∷ []))) refusalNumber 0 ≡ 2
+unfolding unless entering entriesOf lawfulDegrees lawfulTops ascending all
+top-before-order = refl

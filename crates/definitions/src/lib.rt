@@ -31,6 +31,8 @@ pub enum Refusal {
     BeyondPeriod,
     IllFormedCatalogue,
     DegreeMissing,
+    NotAscending,
+    FileTooLong,
 }
 
 // Judging a pair: its step.
@@ -95,6 +97,12 @@ pub struct Reader<'a> {
     pub degree: u32,
     pub top: u32,
     pub place: usize,
+}
+
+// Writing a catalogue: the length of the file.
+pub enum FileAnswer {
+    File(usize),
+    NoFile(Refusal),
 }
 
 // The line that the listing reads: degree, top dimension and page size.

@@ -12,12 +12,13 @@ use base.Logic.{ent}
 use contract.Monad.{fact, fact-mono}
 use borrow.Fn.World.{World, ArgsD}
 use Rattle.definitions.specs.Number.{over}
-use Rattle.definitions.specs.Answers.{judgementValues, uniformityValues, pageValues, pointsValues, openingValues, lookupValues}
+use Rattle.definitions.specs.Answers.{judgementValues, uniformityValues, pageValues, pointsValues, openingValues, lookupValues, fileValues}
 use Rattle.definitions.specs.Generator.{lawfulDegree, period}
 use Rattle.definitions.specs.Points.{words}
 use Rattle.definitions.specs.Ranking.{lawfulTop}
 use Rattle.definitions.specs.Calls.{judging, measuring, pageRequest, paging, pointing}
 use Rattle.definitions.specs.Catalogue.{looking, lookupNumbers}
+use Rattle.definitions.specs.Writing.{writing}
 use Rattle.definitions.specs.declared.Refusal.{Refusal}
 use Rattle.definitions.specs.declared.Selection.{Selection}
 use Rattle.definitions.specs.declared.Judgement.the-variants.{Accepted}
@@ -25,6 +26,7 @@ use Rattle.definitions.specs.declared.Uniformity.the-variants.{Value}
 use Rattle.definitions.specs.declared.Lookup.the-variants.{NoBody}
 use Rattle.definitions.specs.declared.PageAnswer.the-variants.{NoPage}
 use Rattle.definitions.specs.declared.PointsAnswer.the-variants.{NotWritten}
+use Rattle.definitions.specs.declared.FileAnswer.the-variants.{File, NoFile}
 use Rattle.definitions.specs.declared.PageRequest.{PageRequest}
 use Rattle.definitions.specs.declared.Position.{Position}
 use Rattle.definitions.specs.declared.Position.the-variants.{After}
@@ -36,7 +38,9 @@ use Rattle.demands.specs.Demand1.{Exact, LowestGiven, numberOf, formSitu
 use Rattle.demands.specs.Demand1.{ByTable, judging-table, paging-after-table, pointing-table}
 use Rattle.demands.specs.Demand1.{judging-exact, judging-lowest, measuring-exact, measuring-lowest}
 use Rattle.demands.specs.Demand1.{paging-exact, paging-lowest, paging-keeps, pointing-exact, pointing-lowest, pointing-keeps}
+use Rattle.demands.specs.Demand1.{writing-exact, writing-lowest, writing-keeps}
 use Rattle.demands.specs.Catalogues.{reading-exact}
+use Rattle.demands.specs.Files.{WrittenFile, written-file}
 use Rattle.demands.specs.Demand2.{Conditions, accepted-exactly, uniformity-smallest, period-written}
 use Rattle.demands.specs.Demand3.{Faithful, ReadsList, faithful-list}
 use Rattle.demands.specs.Period.{FaithfulPoints, ReadsPeriod, faithful-period}
@@ -47,6 +51,7 @@ use Rattle.points.proofs.points.Reads as points
 use Rattle.catalogue.proofs.«open».Reads as opened
 use Rattle.catalogue.proofs.lookup.Reads as lookup
 use Rattle.catalogue.proofs.body.Reads as body
+use Rattle.catalogue_writer.proofs.write.Reads as write
 use Rattle.catalogue_reader.proofs.reader as reader
 
 -- ---- judging
@@ -132,6 +137,22 @@ module _ (w : World) (κs : _) (a : ArgsD reader.signature κs) where
   reader-empty r e n d =
       let empty = looking-empty file degree n d in
       fact-mono (w .𝓤) _ _ (λ x. (x .1 ∙ empty .0, x .3 ∙ empty .1))
+
+-- ---- writing a catalogue
+
+module _ (κs : _) (entries lent : _) (r : _) (e : _) (h : write.Post κs (entries, (lent, tt)) r e) where
+  pub write-exact : Exact (writing (now entries) (now lent)) (numberOf (fileValues r))
+  write-exact = rw (h .0) (writing-exact (now entries) (now lent))
+
+  pub write-lowest : LowestGiven (writing (now entries) (now lent)) (numberOf (fileValues r))
+  write-lowest = rw (h .0) (writing-lowest (now entries) (now lent))
+
+  pub write-keeps : (n : Refusal) → r ≡ NoFile n → now (second e) ≡ now lent
+  write-keeps n d = h .1 ∙ writing-keeps (now entries) (now lent) n (sym (h .0) ∙ d)
+
+  -- ROUND TRIP of `write`.
+  pub write-reads-back : (n : ℕ) → r ≡ File n → WrittenFile (now entries) (now lent) n (now (second e))
+  write-reads-back n d = rw (h .1) (written-file (now entries) (now lent) n (sym (h .0) ∙ d))
 
 -- ---- a page
 

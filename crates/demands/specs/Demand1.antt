@@ -11,12 +11,13 @@ use native.Mathlib.Omega.{arith}
 use lib.Dec.{eqb, ltb}
 use lib.ListN.{length, getD}
 use Rattle.definitions.specs.Answers.{Situation, situation, refusalNumber, unless, judgementValues, uniformityValues, pageValues, pointsValues, openingValues}
-use Rattle.definitions.specs.Answers.{lookupValues}
+use Rattle.definitions.specs.Answers.{lookupValues, fileValues}
 use Rattle.definitions.specs.Generator.{lawfulDegree, wellFormed, period, primitive, linearQuotients, coprimeStep}
 use Rattle.definitions.specs.Ranking.{lawfulTop, lawfulDimension, rowWidth}
 use Rattle.definitions.specs.Calls.{pairSituations, judging, judgement, measuring, uniformity, selectionOf, pageRequest, positionSituations, paging, pageAnswer}
 use Rattle.definitions.specs.Calls.{pageSlice, pointing, pointsAnswer, pointsSlice}
 use Rattle.definitions.specs.Catalogue.{catalogueForm, opening, entryOf, looking, lookupNumbers, lookupPart, readerTop}
+use Rattle.definitions.specs.Writing.{entriesOf, rankedFile, lawfulDegrees, lawfulTops, ascending, entering, writing, fileAnswer, fileBuffer}
 use Rattle.definitions.specs.declared.Refusal.{Refusal}
 use Rattle.definitions.specs.declared.Refusal.the-variants.{WrongDegree, WrongDimension, ShortSlice, BeyondPeriod, IllFormedCatalogue}
 use Rattle.definitions.specs.declared.Selection.{Selection}
@@ -29,10 +30,11 @@ use Rattle.definitions.specs.declared.PageAnswer.the-variants.{NoPage}
 use Rattle.definitions.specs.declared.PointsAnswer.the-variants.{NotWritten}
 use Rattle.definitions.specs.declared.Opening.the-variants.{Closed}
 use Rattle.definitions.specs.declared.Lookup.the-variants.{NoBody}
+use Rattle.definitions.specs.declared.FileAnswer.the-variants.{NoFile}
 use Rattle.number_laws.specs.Bounds.{LawfulDegree, LawfulTop, lawfulDegree-is, lawfulTop-is}
 use Rattle.answer_laws.specs.Unless.{Decides, here, later, NoneApplies, passes, at-end, decides-behind, decides-rest, decides-none}
 use Rattle.answer_laws.specs.Unless.{unless-both, unless-refused, told-refused}
-use Rattle.answer_laws.specs.Lent.{page-keeps, points-keep}
+use Rattle.answer_laws.specs.Lent.{page-keeps, points-keep, file-keeps}
 use Rattle.demands.specs.Situations.{applies, numbersOf, distinct, toldApart, ascend, given, FirstToApply, Lowest, given-exactly, given-none}
 use Rattle.demands.specs.Situations.{given-listed, first-is-lowest, first-decided}
 use Rattle.demands.specs.PairTable.{PairRefused, pair-table}
@@ -251,3 +253,27 @@ module _ (s : List ℕ) (m : ℕ) where
   looking-empty n e =
       let t = told-refused (looking s m) e (λ d. let z : _≡_ {A = ℕ} 0 1 = cc in omega arith) in
       (unless-refused (λ (k : Refusal). []) _ (t .1), unless-refused (λ (k : Refusal). 0) _ (t .1))
+
+-- ---- writing a catalogue: its entries e, the buffer s
+
+module _ (e s : List ℕ) where
+  pub writing-uses : numbersOf (writing e s) ≡ 1 ∷ 2 ∷ 13 ∷ 14 ∷ []
+  unfolding writing entering
+  writing-uses = refl
+
+  pub writing-exact : Exact (writing e s) (numberOf (fileValues (fileAnswer e s)))
+  unfolding writing entering fileAnswer
+  writing-exact = exact fileValues (writing e s) NoFile _ refl (λ r. refl) refl
+
+  pub writing-lowest : LowestGiven (writing e s) (numberOf (fileValues (fileAnswer e s)))
+  unfolding writing entering
+  writing-lowest = lowest writing-exact refl
+
+  pub writing-situations : map (applies (writing e s)) (1 ∷ 2 ∷ 13 ∷ 14 ∷ [])
+      ≡ not (lawfulDegrees (entriesOf e)) ∷ not (lawfulTops (entriesOf e)) ∷ not (ascending (entriesOf e))
+      ∷ ltb (length s) (length (rankedFile (entriesOf e))) ∷ []
+  unfolding writing entering applies
+  writing-situations = refl
+
+  pub writing-keeps : (n : Refusal) → fileAnswer e s ≡ NoFile n → fileBuffer e s ≡ s
+  writing-keeps n = file-keeps e s

@@ -1,6 +1,7 @@
 -- The demands of the C functions: whatever struct and slices their contracts allow, the refusal's number is given exactly in its situation and 0
 -- with the value, a refusal leaves the slice as it was, accepted is what demand 2 says, the t-value is the smallest, whoever walks the pages reads
--- the ranked list, and points in pieces are the full period. Each result holds the values of the definition's answer. Assumes nothing.
+-- the ranked list, points in pieces are the full period, and a file that was written is read back. Each result holds the values of the definition's
+-- answer. Assumes nothing.
 use mathlib.Core.Path.{_≡_, refl, ap, _∙_}
 use mathlib.Core.Logic.{_↔_}
 use mathlib.Core.Bool.{true}
@@ -11,11 +12,12 @@ use native.Mathlib.Omega.{arith}
 use lib.ListN.{length}
 use denote.Ref.{now}
 use Rattle.definitions.specs.Number.{over}
-use Rattle.definitions.specs.Answers.{judgementValues, uniformityValues, pageValues, pointsValues, lookupValues}
+use Rattle.definitions.specs.Answers.{judgementValues, uniformityValues, pageValues, pointsValues, lookupValues, fileValues}
 use Rattle.definitions.specs.Generator.{lawfulDegree, period, step}
 use Rattle.definitions.specs.Points.{words}
 use Rattle.definitions.specs.Ranking.{lawfulTop}
 use Rattle.definitions.specs.Catalogue.{looking, lookupNumbers}
+use Rattle.definitions.specs.Writing.{entriesOf, rankedFile, writing, fileAnswer, fileBuffer}
 use Rattle.definitions.specs.Net.{tValue}
 use Rattle.definitions.specs.Calls.{judging, judgement, measuring, uniformity, paging, pageAnswer, pageSlice}
 use Rattle.definitions.specs.Calls.{pointing, pointsAnswer, pointsSlice}
@@ -24,18 +26,21 @@ use Rattle.definitions.specs.declared.Position.the-variants.{Start, After}
 use Rattle.definitions.specs.declared.PageRequest.{PageRequest}
 use Rattle.definitions.specs.declared.Judgement.the-variants.{Accepted, Rejected}
 use Rattle.definitions.specs.declared.Uniformity.the-variants.{Value, Undefined}
+use Rattle.definitions.specs.declared.FileAnswer.the-variants.{File, NoFile}
 use Rattle.number_laws.specs.Bounds.{LawfulDegree, LawfulTop}
 use Rattle.definitions.specs.declared.Lookup.{Lookup}
 use Rattle.definitions.specs.declared.Lookup.the-variants.{Body, NoBody}
 use Rattle.net_laws.specs.Smallest.{SmallestNet}
 use Rattle.answer_laws.specs.Unless.{unless-given}
 use Rattle.answer_laws.specs.Together.{answered-both}
-use Rattle.answer_laws.specs.Lent.{page-answered, points-answered}
+use Rattle.answer_laws.specs.Lent.{page-answered, points-answered, file-answered}
 use Rattle.results.specs.Results.{value, judgementResult, tValueResult, pageResult, pointsResult}
 use Rattle.results.specs.declared.FenyurkaJudgement.{FenyurkaJudgement}
 use Rattle.results.specs.declared.FenyurkaTValue.{FenyurkaTValue}
 use Rattle.results.specs.declared.FenyurkaPage.{FenyurkaPage}
 use Rattle.results.specs.declared.FenyurkaPoints.{FenyurkaPoints}
+use Rattle.catalogue_results.specs.Results.{fileResult}
+use Rattle.catalogue_results.specs.declared.FenyurkaFile.{FenyurkaFile}
 use Rattle.interface.specs.Requests.{listOf, pageOf}
 use Rattle.interface.specs.Located.{located-values, located-part}
 use Rattle.interface.specs.declared.FenyurkaList.{FenyurkaList}
@@ -46,10 +51,13 @@ use Rattle.interface.proofs.fenyurka_page_after.Reads as c-page-after
 use Rattle.interface.proofs.fenyurka_points.Reads as c-points
 use Rattle.interface.proofs.fenyurka_open.Reads as c-open
 use Rattle.interface.proofs.fenyurka_lookup.Reads as c-lookup
+use Rattle.interface.proofs.fenyurka_write.Reads as c-write
 use Rattle.demands.specs.Arguments.{second, fourth, fifth}
 use Rattle.demands.specs.Demand1.{Exact, LowestGiven, ByTable, numberOf, formSituation, opening-exact, looking-exact, looking-lowest}
 use Rattle.demands.specs.Demand1.{judging-exact, judging-lowest, judging-table, measuring-exact, measuring-lowest, paging-exact, paging-lowest}
 use Rattle.demands.specs.Demand1.{paging-after-table, pointing-exact, pointing-lowest, pointing-table}
+use Rattle.demands.specs.Demand1.{writing-exact, writing-lowest}
+use Rattle.demands.specs.Files.{WrittenFile, written-file}
 use Rattle.demands.specs.Demand2.{Conditions, accepted-exactly, uniformity-smallest, period-written}
 use Rattle.demands.specs.Demand3.{Faithful, ReadsList, faithful-list}
 use Rattle.demands.specs.Period.{FaithfulPoints, ReadsPeriod, faithful-period}
@@ -94,6 +102,18 @@ points-result-keeps : (m p q first : ℕ) (s : List ℕ) (r : FenyurkaPoints) �
     → 0 < r .refusal → pointsSlice m p q first s ≡ s
 points-result-keeps m p q first s r h n =
     answered-both (points-answered m p q first s) (λ a t. 0 < numberOf (pointsValues a) → t ≡ s) (λ k i. refl) (λ i. absurd (omega arith)) (rw h at n)
+
+module _ (entries s : List ℕ) (r : FenyurkaFile) (h : r ≡ fileResult (fileValues (fileAnswer entries s))) where
+  file-result-keeps : 0 < r .refusal → fileBuffer entries s ≡ s
+  file-result-keeps n =
+      answered-both (file-answered entries s) (λ a t. 0 < numberOf (fileValues a) → t ≡ s) (λ k i. refl) (λ i. absurd (omega arith)) (rw h at n)
+
+  file-zero : r .refusal ≡ 0 → fileAnswer entries s ≡ File (r .length)
+  unfolding fileAnswer
+  file-zero z =
+      let given = unless-given NoFile (File (length (rankedFile (entriesOf entries)))) (writing-exact entries s .none .0 (rw h at z)) in
+      let same : length (rankedFile (entriesOf entries)) ≡ r .length = rw (h, given) in
+      given ∙ ap File same
 
 -- ---- demands 1 and 2, call by call
 
@@ -179,6 +199,20 @@ c-lookup-empty κs file m r e h n =
     no-rows : (k : Lookup) → 0 < value (lookupValues k) 0 → value (lookupValues k) 2 ≡ 0
     no-rows (Body top rows) some = absurd (omega arith)
     no-rows (NoBody refusal) some = refl
+
+module _ (κs : _) (entries lent : _) (r : _) (e : _) (h : c-write.Post κs (entries, (lent, tt)) r e) where
+  pub c-write-exact : Exact (writing (now entries) (now lent)) (r .refusal)
+  c-write-exact = rw (h .0) (writing-exact (now entries) (now lent))
+
+  pub c-write-lowest : LowestGiven (writing (now entries) (now lent)) (r .refusal)
+  c-write-lowest = rw (h .0) (writing-lowest (now entries) (now lent))
+
+  pub c-write-keeps : 0 < r .refusal → now (second e) ≡ now lent
+  c-write-keeps n = h .1 ∙ file-result-keeps (now entries) (now lent) r (h .0) n
+
+  -- ROUND TRIP from C.
+  pub c-write-reads-back : r .refusal ≡ 0 → WrittenFile (now entries) (now lent) (r .length) (now (second e))
+  c-write-reads-back z = rw (h .1) (written-file (now entries) (now lent) (r .length) (file-zero (now entries) (now lent) r (h .0) z))
 
 -- ---- demand 3, the walk of pages
 

@@ -16,6 +16,7 @@ use Rattle.catalogue.proofs.lookup.Reads as lookup
 use Rattle.catalogue.proofs.body.Reads as body
 use Rattle.catalogue_rows.proofs.row_at.Reads as row-at
 use Rattle.catalogue_rows.proofs.place_behind.Reads as place-behind
+use Rattle.catalogue_writer.proofs.write.Reads as write
 use Rattle.line.proofs.read_numbers.Reads as read-numbers
 use Rattle.listing.proofs.read_line.Reads as read-line
 use Rattle.listing.proofs.put_decimal.Reads as put-decimal
@@ -24,6 +25,7 @@ use Rattle.listing.proofs.put_row.Reads as put-row
 use Rattle.listing.proofs.put_page.Reads as put-page
 use Rattle.listing.proofs.put_total.Reads as put-total
 use Rattle.listing.proofs.put_refused.Reads as put-refused
+use Rattle.catalogue_line.proofs.answer.Reads as answer
 use Rattle.listing_parts.proofs.start.Reads as start
 use Rattle.listing_parts.proofs.parts.next.Reads as next-part
 use Rattle.catalogue_reader.proofs.reader as reader
@@ -37,6 +39,7 @@ use Rattle.interface.proofs.fenyurka_points.Reads as c-points
 use Rattle.interface.proofs.fenyurka_open.Reads as c-open
 use Rattle.interface.proofs.fenyurka_lookup.Reads as c-lookup
 use Rattle.interface.proofs.fenyurka_row.Reads as c-row
+use Rattle.interface.proofs.fenyurka_write.Reads as c-write
 use Rattle.demands.specs.Arguments.{second, third, fourth, fifth}
 
 -- ---- what is shown
@@ -95,6 +98,9 @@ page-unique κs a r r′ e e′ = both
 pub points-unique : Determined points.Post (λ κs r e. r and now (fifth e))
 points-unique κs a r r′ e e′ = both
 
+pub write-unique : Determined write.Post (λ κs r e. r and now (second e))
+write-unique κs a r r′ e e′ = both
+
 pub read-numbers-unique : Determined read-numbers.Post (λ κs r e. r and now (second e))
 read-numbers-unique κs a r r′ e e′ = both
 
@@ -119,6 +125,10 @@ put-refused-unique κs a r r′ e e′ = both
 -- The next part of the listing's text: two slices, of numbers and of bytes.
 pub next-part-unique : Determined next-part.Post (λ κs r e. r and now (second e) and now (third e))
 next-part-unique κs a r r′ e e′ x y = ap₂ _and_ (same (x .0) (y .0)) (both (x .1) (y .1))
+
+-- What the program that writes a catalogue answers: the bytes for both streams, and how many there are.
+pub answer-unique : Determined answer.Post (λ κs r e. r .file and r .text and now (second e) and now (third e))
+answer-unique κs a r r′ e e′ x y = ap₂ _and_ (same (x .0) (y .0)) (ap₂ _and_ (same (x .1 .0) (y .1 .0)) (both (x .1 .1) (y .1 .1)))
 
 -- ---- the reader: the toolchain gives no `Post` for a struct that holds a slice, so the clauses themselves stand here, in any model of the logic
 
@@ -176,3 +186,6 @@ c-lookup-unique κs a r r′ e e′ = same
 
 pub c-row-unique : Determined c-row.Post (λ κs r e. r)
 c-row-unique κs a r r′ e e′ = same
+
+pub c-write-unique : Determined c-write.Post (λ κs r e. r and now (second e))
+c-write-unique κs a r r′ e e′ = both

@@ -1,16 +1,18 @@
 // The public calls for C, as include/fenyurka.h declares them: structs go in and out by value, and only slices are behind pointers.
 // A result holds the refusal's number, 0 where there is none, and the values, 0 where there are none. A refusal writes into no slice.
 ghost use mathlib.Core.Path.{_≡_};
-ghost use Rattle.definitions.specs.Answers.{judgementValues, uniformityValues, pageValues, pointsValues, openingValues};
+ghost use Rattle.definitions.specs.Answers.{judgementValues, uniformityValues, pageValues, pointsValues, openingValues, fileValues};
 ghost use Rattle.definitions.specs.Calls.{judgement, uniformity, pageAnswer, pageSlice, pointsAnswer, pointsSlice};
 ghost use Rattle.definitions.specs.Catalogue.{opening};
+ghost use Rattle.definitions.specs.Writing.{fileAnswer, fileBuffer};
 ghost use Rattle.results.specs.Results.{judgementResult, tValueResult, pageResult, pointsResult};
-ghost use Rattle.catalogue_results.specs.Results.{catalogueResult};
+ghost use Rattle.catalogue_results.specs.Results.{catalogueResult, fileResult};
 ghost use Rattle.interface.specs.Requests.{pageOf, rowAtPlace};
 ghost use Rattle.interface.specs.Located.{located};
 use catalogue::seek;
 use catalogue_results::FenyurkaBody;
 use catalogue_results::FenyurkaCatalogue;
+use catalogue_results::FenyurkaFile;
 use catalogue_results::FenyurkaRow;
 use definitions::PageRequest;
 use definitions::Position;
@@ -117,4 +119,13 @@ pub extern "C" fn fenyurka_row(list: FenyurkaList, body: &[u8], place: usize) ->
     let top = list.top;
     let next = catalogue_rows::place_behind(body, degree, top, place);
     catalogue_results::row(catalogue_rows::row_at(body, degree, top, place), top, next)
+}
+
+// Writes the catalogue that entries ask for, degree, T, degree, T, .., and says how many bytes it has.
+#[no_mangle]
+pub extern "C" fn fenyurka_write(entries: &[u32], file: &mut [u8]) -> FenyurkaFile
+    ensures { λ r. ⌜ r ≡ fileResult (fileValues (fileAnswer (now (entries .entry)) (now (file .entry)))) ⌝ }
+    ensures { λ _. ⌜ now (file .exit) ≡ fileBuffer (now (entries .entry)) (now (file .entry)) ⌝ }
+{
+    catalogue_results::file(catalogue_writer::write(entries, file))
 }

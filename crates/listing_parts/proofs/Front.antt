@@ -1,22 +1,13 @@
--- A line put at the front of a buffer that it fits; a part made of its text and of what is left behind it. Assumes nothing.
-use mathlib.Core.Path.{_≡_, sym, _∙_}
+-- A part made of its text and of what is left behind it; a part that is one line. Assumes nothing.
+use mathlib.Core.Path.{_≡_, sym}
 use mathlib.Core.List.{List, []}
-use Prim.Native.Nat.{ℕ, _+_, _≤_}
-use native.Mathlib.Nat.{zero-add}
-use native.Mathlib.Omega.{arith}
+use Prim.Native.Nat.{ℕ}
 use lib.ListN.{length}
 use Rattle.definitions.specs.Number.{over}
 use Rattle.slice_laws.specs.Over.{over-nothing}
-use Rattle.slice_laws.specs.Place.{placed, behind, placed-fits, behind-fits}
 use Rattle.listing_parts.specs.Parts.{partRows, partText, behindPart, goesOn, nextPart, rowsThatFit, partAt, rowsAfter, textAfter}
 use Rattle.listing_parts.specs.declared.Printing.{Printing}
 use Rattle.listing_parts.specs.declared.parts.Part.{Part}
-
-pub put-front : (text out : List ℕ) {r : ℕ} {exit : List ℕ} → length text ≤ length out → r ≡ behind 0 text out → exit ≡ placed 0 text out
-    → (r ≡ length text) × (exit ≡ over 0 text out)
-put-front text out h e k =
-    let room : 0 + length text ≤ length out = omega arith in
-    (e ∙ behind-fits 0 text out room ∙ zero-add (length text), k ∙ placed-fits 0 text out room)
 
 pub part-is : (k : ℕ) (at : Printing) {bytes : ℕ} {next : Printing} → bytes ≡ length (partText k at) → next ≡ behindPart k at
     → _≡_ {A = Part} (record { bytes = bytes; more = goesOn next; next = next }) (nextPart k at)

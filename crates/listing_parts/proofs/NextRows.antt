@@ -10,7 +10,7 @@ use lib.Seq.{take-nil, drop-nil}
 use Rattle.definitions.specs.Number.{join, over}
 use Rattle.definitions.specs.Ranking.{rowWidth}
 use Rattle.definitions.specs.Listing.{pageText}
-use Rattle.slice_laws.specs.Place.{placed, behind}
+use Rattle.slice_laws.specs.Place.{placed, behind, put-front}
 use Rattle.page_laws.specs.Rows.{rowsOf}
 use Rattle.cursor.specs.Left.{left, passed}
 use Rattle.cursor.specs.declared.reading.Cursor.{Cursor}
@@ -22,7 +22,7 @@ use Rattle.listing_parts.specs.Parts.{rowsPart, partRows, partText, behi
 use Rattle.listing_parts.specs.declared.Printing.{Printing}
 use Rattle.listing_parts.specs.declared.Printing.the-variants.{Rows, Total}
 use Rattle.listing_parts.specs.declared.parts.Part.{Part}
-use Rattle.listing_parts.proofs.Front.{put-front, part-is}
+use Rattle.listing_parts.proofs.Front.{part-is}
 use Rattle.listing_rows.specs.Taken.{HandedWithin, within-back}
 
 -- As many rows as fit both slices fit each.

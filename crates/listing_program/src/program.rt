@@ -6,11 +6,12 @@ ghost use Rattle.definitions.specs.Ranking.{longestRow};
 ghost use Rattle.listing_rows.specs.Room.{stepRoom};
 ghost use Rattle.listing_parts.specs.Left.{Underway};
 ghost use Rattle.listing_program.specs.Rooms.{numbersAtHand, bytesAtHand};
-use crate::input::LINE_ROOM;
-use crate::input::read_input;
 use libc::STDOUT_FILENO;
 use listing_parts::Printing;
 use listing_parts::parts;
+
+// More bytes than a line that can be read.
+const LINE_ROOM: usize = 64;
 
 // More rows than any list has, so that one search serves a whole list.
 const ROWS_AT_HAND: usize = 3072;
@@ -19,13 +20,6 @@ const ROWS_AT_HAND: usize = 3072;
 const NUMBERS_AT_HAND: usize = ROWS_AT_HAND * limits::LONGEST_ROW;
 
 const BYTES_AT_HAND: usize = ROWS_AT_HAND * listing_rows::STEP_ROOM;
-
-// The first n bytes of a text.
-fn show(text: &[u8], n: usize)
-    requires { ⌜ n ≤ length (now text) ⌝ }
-{
-    io::write_all(STDOUT_FILENO, &text[..n]);
-}
 
 // All that is left, part by part.
 fn print_parts(first: Printing, rows: &mut [u32], text: &mut [u8])
@@ -37,7 +31,7 @@ fn print_parts(first: Printing, rows: &mut [u32], text: &mut [u8])
     let mut more = true;
     while more {
         let part = parts::next(at, rows, text);
-        show(text, part.bytes);
+        streams::write_front(STDOUT_FILENO, text, part.bytes);
         at = part.next;
         more = part.more;
     }
@@ -70,7 +64,7 @@ pub fn run_within(numbers: usize, bytes: usize)
     requires { ⌜ (stepRoom ≤ bytes) × (bytes ≤ bytesAtHand) ⌝ }
 {
     let mut input = [0u8; LINE_ROOM];
-    let n = read_input(&mut input);
+    let n = streams::read_line(&mut input);
     print(&input[..n], numbers, bytes);
 }
 

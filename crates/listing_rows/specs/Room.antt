@@ -1,42 +1,27 @@
 -- How long the printed lines are: a number of 32 bits has at most ten digits, so 136 bytes hold a row of nine numbers and the line of its page,
--- and any other line. By the digits: a tenth of the number has one digit less.
--- Assumes nothing.
+-- and any other line. Assumes nothing.
 use mathlib.Core.Path.{_≡_, refl, ap, _∙_}
 use mathlib.Core.Bool.{Bool, true, false, cond, not, _||_}
 use mathlib.Core.List.{List, [], _∷_, _++_}
-use Prim.Native.Nat.{ℕ, zero, suc, _+_, _*_, _/_, _%_, _^_, _≤_, _<_}
-use native.Mathlib.Nat.{pow-suc, mod-le, div-le-self}
+use Prim.Native.Nat.{ℕ, suc, _+_, _*_, _/_, _%_, _^_, _≤_, _<_}
+use native.Mathlib.Nat.{mod-le, div-le-self}
 use native.Mathlib.Omega.{arith}
-use lib.Dec.{ltb, eqb}
+use lib.Dec.{eqb}
 use lib.ListN.{length, getD, length-append}
-use borrow.Author.Tests.{ltb-true, ltb-false}
 use Rattle.definitions.specs.Number.{numbers}
 use Rattle.definitions.specs.Ranking.{longestRow}
 use Rattle.definitions.specs.Listing.{decimal, headerText, rowText, pageText, totalText, refusedText, newline, letters}
-use Rattle.text.specs.Decimal.{decimal-digit, decimal-length-more}
+use Rattle.text.specs.Decimal.{ten-digits}
 use Rattle.text.specs.Lines.{line-length, long-length}
 use Rattle.row_text.specs.Rows.{rowBytes, row-none, row-some}
 use Rattle.page_line.specs.Texts.{page-line}
 use Rattle.page_line.specs.Due.{mostRows, dueText, due-true, due-false}
-use Rattle.listing.specs.Texts.{header-line, total-line, refused-line}
+use Rattle.listing.specs.Texts.{header-line, total-line, refused-length, refused-short}
 use Rattle.listing_rows.specs.Printed.{stepText}
 
 -- The most bytes of a row and of the line of its page.
 abbrev pub stepRoom : ℕ
 stepRoom = 136
-
-digits-few : (k n : ℕ) → n < 10 ^ suc k → length (decimal n) ≤ suc k
-digits-few zero n h = omega (arith, ap length (decimal-digit n h))
-digits-few (suc k) n h = go (ltb n 10) refl (digits-few k (n / 10))
-  where
-    go : (b : Bool) → ltb n 10 ≡ b → (n / 10 < 10 ^ suc k → length (decimal (n / 10)) ≤ suc k) → length (decimal n) ≤ suc (suc k)
-    go true e ih = omega (arith, ap length (decimal-digit n (ltb-true n 10 e)))
-    go false e ih =
-        let tenfold = pow-suc 10 (suc k) in
-        omega (arith, decimal-length-more n (ltb-false n 10 e), ih (omega arith))
-
-ten-digits : (n : ℕ) → n < 2 ^ 32 → length (decimal n) ≤ 10
-ten-digits n h = digits-few 9 n (omega arith)
 
 -- ---- a row and the line of its page
 
@@ -93,22 +78,18 @@ pub empty-page : (1 ≤ length (pageText 1 0 false)) × (length (pageText 1 0 fa
 empty-page = (omega (arith, page-length 1 0 false), omega (arith, page-room 1 0 false (omega arith) (omega arith)))
 
 module _ (n : ℕ) where
-  refused-length : length (refusedText n) ≡ 8 + length (decimal n) + 1
-  unfolding numbers
-  refused-length = ap length (refused-line n) ∙ line-length (letters "refused ") n
-
   total-length : length (totalText n) ≡ 6 + length (decimal n) + 1
   unfolding numbers
   total-length = ap length (total-line n) ∙ line-length (letters "total ") n
 
   pub refused-some : 1 ≤ length (refusedText n)
-  refused-some = omega (arith, refused-length)
+  refused-some = omega (arith, refused-length n)
 
   pub total-some : 1 ≤ length (totalText n)
   total-some = omega (arith, total-length)
 
   pub refused-room : n < mostRows → length (refusedText n) ≤ stepRoom
-  refused-room h = omega (arith, refused-length, ten-digits n (omega arith))
+  refused-room h = omega (arith, refused-short n (omega arith))
 
   pub total-room : n < mostRows → length (totalText n) ≤ stepRoom
   total-room h = omega (arith, total-length, ten-digits n (omega arith))

@@ -48,11 +48,11 @@ pub join-last : {X : Type 0} (a : List (List X)) (r : List X) → join (a ++ r �
 join-last [] r = append-nil r
 join-last (x ∷ a) r = rw (join-last a r) (sym (append-assoc x (join a) r))
 
-join-append : (a b : List (List ℕ)) → join (a ++ b) ≡ join a ++ join b
+pub join-append : (a b : List (List ℕ)) → join (a ++ b) ≡ join a ++ join b
 join-append [] b = refl
 join-append (r ∷ a) b = rw (join-append a b) (sym (append-assoc r (join a) (join b)))
 
-drop-take : {X : Type 0} (n m : ℕ) (l : List X) → drop n (take (n + m) l) ≡ take m (drop n l)
+pub drop-take : {X : Type 0} (n m : ℕ) (l : List X) → drop n (take (n + m) l) ≡ take m (drop n l)
 drop-take zero m l = rw zero-add
 drop-take (suc n) m [] = rw (take-nil (suc n + m), take-nil m)
 drop-take (suc n) m (x ∷ l) = rw suc-add (drop-take n m l)

@@ -1,9 +1,9 @@
 -- Rows from the walk: from the root of the tree nothing is found yet, and when all is walked the ranked list's rows above the cut stand in the
--- slice. The row at the position ranks by its key alone, which has no step. Assumes nothing.
-use mathlib.Core.Path.{_≡_, refl, sym, ap, ap₂, _∙_}
+-- slice and are counted; above the start are all. The row at the position ranks by its key alone, which has no step. Assumes nothing.
+use mathlib.Core.Path.{_≡_, sym, ap, _∙_}
 use mathlib.Core.Bool.{Bool, true, false}
 use mathlib.Core.List.{List}
-use Prim.Native.Nat.{ℕ, _+_, _-_, _*_, _/_, _≤_}
+use Prim.Native.Nat.{ℕ, _-_, _*_, _/_, _≤_}
 use native.Mathlib.Nat.{div-mul-le-self, le-div-iff-mul-le}
 use native.Mathlib.Omega.{arith}
 use lib.Dec.{ltb}
@@ -18,9 +18,10 @@ use Rattle.definitions.specs.declared.Position.the-variants.{Start, After}
 use Rattle.fraction_laws.specs.Level.{root-proper}
 use Rattle.fraction_laws.specs.Tree.{tree-def}
 use Rattle.fraction_laws.specs.WellFormed.{WellFormed, wellFormed-is}
+use Rattle.page_laws.specs.Ascending.{rest-all}
 use Rattle.page_laws.specs.Search.{Search, offerAll, found, search-page, start-good}
 use Rattle.ranking_laws.specs.Met.{ruleOf, met, met-wide}
-use Rattle.ranking_laws.specs.Ranked.{tree-ranked}
+use Rattle.ranking_laws.specs.Ranked.{ranked-ascends, tree-ranked}
 use Rattle.ranking_laws.specs.Reading.{ListedPosition, at-start, after-listed}
 use Rattle.search.specs.Frame.{LawfulList, cutIf, stateOf, offers}
 use Rattle.search.specs.Standing.{begun, Begun}
@@ -35,7 +36,7 @@ use Rattle.page_rows.specs.declared.serve.Served.{Served}
 abbrev root : Pair
 root = record { p = 1; q = 0 }
 
-module _ (l : Selection) (b : Bool) (last s : List ℕ) (cap : ℕ) (lawful : LawfulList l) (full : cap ≡ length s / rowWidth l) where
+module _ (l : Selection) (b : Bool) (last s : List ℕ) (cap : ℕ) (lawful : LawfulList l) where
   abbrev cut : Cut
   cut = cutIf b (rowKey (take (rowWidth l) last))
 
@@ -46,21 +47,17 @@ module _ (l : Selection) (b : Bool) (last s : List ℕ) (cap : ℕ) (lawful : La
   abbrev none : Search
   none = record { out = s; n = 0; count = 0 }
 
-  module _ (lent : rowWidth l ≤ length last) (room : rowWidth l ≤ length s) where
-    some : 1 ≤ cap
-    some = rw full (le-div-iff-mul-le {k = rowWidth l} {x = 1} {y = length s} (omega arith) .1 (omega arith))
-
-    pub ready : Ready (l .degree) 1 0 frame last none
-    ready = record {
-      searching = record {
-        framed = record { lawful = lawful; some = some; lent = lent };
-        good = start-good rowKey (rowWidth l) cap cut s (rw full (div-mul-le-self (length s) (rowWidth l)));
-        few = omega (arith, pow-mono (lawful .degree .high));
-      };
-      levels = omega arith;
-      proper = let z : l .degree - l .degree ≡ 0 = omega arith in rw z root-proper;
-      inside = λ t i. rw tree-def i;
-    }
+  pub ready : rowWidth l ≤ length last → 1 ≤ cap → cap * rowWidth l ≤ length s → Ready (l .degree) 1 0 frame last none
+  ready lent some room = record {
+    searching = record {
+      framed = record { lawful = lawful; some = some; lent = lent };
+      good = start-good rowKey (rowWidth l) cap cut s room;
+      few = omega (arith, pow-mono (lawful .degree .high));
+    };
+    levels = omega arith;
+    proper = let z : l .degree - l .degree ≡ 0 = omega arith in rw z root-proper;
+    inside = λ t i. rw tree-def i;
+  }
 
   -- All is walked.
   module _ {t : Tally} {o : List ℕ} (e : stateOf o t ≡ offers frame last (met l (pairsBelow (l .degree) root)) none) where
@@ -71,13 +68,26 @@ module _ (l : Selection) (b : Bool) (last s : List ℕ) (cap : ℕ) (lawful : La
         ∙ search-page rowKey (rowWidth l) cap cut s (met l (tree (l .degree))) (met-wide l (lawful .top .low) (tree (l .degree)))
         ∙ ap (found rowKey (rowWidth l) cap cut s) (tree-ranked l (omega (arith, lawful .degree .low)))
 
-    pub searched : Filled l cut s (record { rows = t .kept; further = ltb cap (t .count) }) o
+    pub searched : cap ≡ length s / rowWidth l → Filled l cut s (record { rows = t .kept; further = ltb cap (t .count) }) o
     unfolding found more
-    searched = record {
+    searched full = record {
       count = ap (λ (x : Search). x .n) walked ∙ rw full;
       further = ap (λ (x : Search). ltb cap (x .count)) walked ∙ rw full;
       written = ap (λ (x : Search). x .out) walked ∙ rw full;
     }
+
+    -- From the start every row is counted, whatever the room.
+    pub counted : b ≡ false → t .count ≡ length (ranked l)
+    unfolding found
+    counted whole = ap (λ (x : Search). x .count) walked ∙ rw whole (ap length (rest-all rowKey start (ranked l) (ranked-ascends l)))
+
+-- As many rows as fit have room; where one fits they are at least one.
+module _ (l : Selection) (s : List ℕ) {cap : ℕ} (full : cap ≡ length s / rowWidth l) where
+  pub fitting-room : cap * rowWidth l ≤ length s
+  fitting-room = rw full (div-mul-le-self (length s) (rowWidth l))
+
+  pub fitting-some : rowWidth l ≤ length s → 1 ≤ cap
+  fitting-some room = rw full (le-div-iff-mul-le {k = rowWidth l} {x = 1} {y = length s} (omega arith) .1 (omega arith))
 
 -- ---- the row at the position
 

@@ -9,7 +9,7 @@ use native.Mathlib.Numerals.{add-one}
 use native.Mathlib.Omega.{arith}
 use lib.Dec.{leb}
 use lib.ListN.{length, take, drop, set, getD, length-append, length-take, length-drop, take-append-drop, drop-of-length-le, List·getD-append}
-use lib.Seq.{drop-at, take-at, take-all, take-take, take-append-le, drop-append-le, getD-take, length-take-le}
+use lib.Seq.{drop-at, take-at, take-add, take-all, take-take, take-append-le, drop-append-le, getD-take, length-take-le}
 use lib.Seq.{drop-drop, drop-cons, take-set-le, take-set-lt, drop-set-lt, set-split, set-append-left, getD-set-same, append-snoc, lt-length-set}
 use borrow.Author.Tests.{leb-true, leb-false}
 use Rattle.definitions.specs.Number.{over}
@@ -81,6 +81,39 @@ over-before at a b out h =
       drop-at (take (at + length a) out) (b ++ drop (at + length a + length b) out) (at + length a) front,
       over-parts at (a ++ b) out,
     ) (simp (length-append, append-assoc, add-assoc))
+
+-- What stands between two places, written again with a part behind it or before it.
+over-gap-before : (at d : ℕ) (b s : List ℕ) → at + d ≤ length s → over at (take d (drop at s) ++ b) s ≡ over (at + d) b s
+over-gap-before at d b s h =
+    let e : length (take d (drop at s)) ≡ d = length-take-le d (drop at s) (omega (arith, length-drop at s)) in
+    rw (over-parts at (take d (drop at s) ++ b) s, over-parts (at + d) b s, take-add at d s, length-append, e) (simp (append-assoc, add-assoc))
+
+over-gap-behind : (at d : ℕ) (a s : List ℕ) → at + length a + d ≤ length s → over at (a ++ take d (drop (at + length a) s)) s ≡ over at a s
+over-gap-behind at d a s h =
+    let k : ℕ = at + length a in
+    let g = take d (drop k s) in
+    let size : length g ≡ d = length-take-le d (drop k s) (omega (arith, length-drop k s)) in
+    let end : at + length (a ++ g) ≡ k + d = omega (arith, length-append a g) in
+    let behind : g ++ drop (at + length (a ++ g)) s ≡ drop k s = rw (end, ← drop-drop d k s) (take-append-drop d (drop k s)) in
+    over-parts at (a ++ g) s
+    ∙ ap (λ (l : List ℕ). take at s ++ l) (append-assoc a g _ ∙ ap (λ (l : List ℕ). a ++ l) behind)
+    ∙ sym (over-parts at a s)
+
+-- Two parts apart, in either order.
+pub over-apart : (i j : ℕ) (a b s : List ℕ) → i + length a ≤ j → j ≤ length s → over i a (over j b s) ≡ over j b (over i a s)
+over-apart i j a b s h l =
+    let k : ℕ = i + length a in
+    let d : ℕ = j - k in
+    let g = take d (drop k s) in
+    let e : k + d ≡ j = omega arith in
+    let size : length g ≡ d = length-take-le d (drop k s) (omega (arith, length-drop k s)) in
+    let end : i + length (a ++ g) ≡ j = omega (arith, length-append a g) in
+    ap (over i a) (ap (λ (n : ℕ). over n b s) (sym e) ∙ sym (over-gap-before k d b s (omega arith)))
+    ∙ over-before i a (g ++ b) s (omega arith)
+    ∙ ap (λ (v : List ℕ). over i v s) (sym (append-assoc a g b))
+    ∙ sym (over-append i (a ++ g) b s (omega arith))
+    ∙ ap (λ (n : ℕ). over n b (over i (a ++ g) s)) end
+    ∙ ap (over j b) (over-gap-behind i d a s (omega arith))
 
 -- What stands before the place stays.
 pub getD-over : (at i d : ℕ) (v s : List ℕ) → i < at → at ≤ length s → getD (over at v s) i d ≡ getD s i d

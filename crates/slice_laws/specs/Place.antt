@@ -4,7 +4,7 @@ use mathlib.Core.Path.{_≡_, refl, sym, _∙_}
 use mathlib.Core.Bool.{Bool, true, false}
 use mathlib.Core.List.{List, []}
 use Prim.Native.Nat.{ℕ, _+_, _-_, _≤_, _<_}
-use native.Mathlib.Nat.{add-zero}
+use native.Mathlib.Nat.{add-zero, zero-add}
 use native.Mathlib.Omega.{arith}
 use lib.Dec.{leb}
 use lib.ListN.{length}
@@ -52,6 +52,13 @@ module _ (at : ℕ) (text out : List ℕ) where
 
   pub not-put : length out < at + length text → (at ≡ behind at text out) × (out ≡ placed at text out)
   not-put h = (sym (behind-short at text out h), sym (placed-short at text out h))
+
+-- A text put at the front of a buffer that it fits.
+pub put-front : (text out : List ℕ) {r : ℕ} {exit : List ℕ} → length text ≤ length out → r ≡ behind 0 text out → exit ≡ placed 0 text out
+    → (r ≡ length text) × (exit ≡ over 0 text out)
+put-front text out h e k =
+    let room : 0 + length text ≤ length out = omega arith in
+    (e ∙ behind-fits 0 text out room ∙ zero-add (length text), k ∙ placed-fits 0 text out room)
 
 -- What a writer does behind the test that its text, whose bytes are counted, fits; and what it leaves where the test fails.
 module _ (at : ℕ) (text out : List ℕ) {n : ℕ} (counted : n ≡ length text) {fits : Bool} (tested : fits ≡ leb (at + n) (length out)) where

@@ -4,7 +4,8 @@
 use mathlib.Core.Path.{_≡_, refl, ap, _∙_}
 use mathlib.Core.Bool.{Bool, true, false}
 use mathlib.Core.List.{List, [], _∷_, _++_}
-use Prim.Native.Nat.{ℕ, zero, suc, _+_, _-_, _/_, _%_, _≤_, _<_}
+use Prim.Native.Nat.{ℕ, zero, suc, _+_, _-_, _/_, _%_, _^_, _≤_, _<_}
+use native.Mathlib.Nat.{pow-suc}
 use native.Mathlib.Omega.{arith}
 use lib.Dec.{ltb}
 use lib.ListN.{length, set, length-append}
@@ -57,6 +58,20 @@ decimal-some n = go (ltb n 10) refl
     go : (b : Bool) → ltb n 10 ≡ b → 1 ≤ length (decimal n)
     go true e = omega (arith, ap length (decimal-digit n (ltb-true n 10 e)))
     go false e = omega (arith, decimal-length-more n (ltb-false n 10 e))
+
+-- A number below 10^k has at most k digits: a tenth of it has one less.
+digits-few : (k n : ℕ) → n < 10 ^ suc k → length (decimal n) ≤ suc k
+digits-few zero n h = omega (arith, ap length (decimal-digit n h))
+digits-few (suc k) n h = go (ltb n 10) refl (digits-few k (n / 10))
+  where
+    go : (b : Bool) → ltb n 10 ≡ b → (n / 10 < 10 ^ suc k → length (decimal (n / 10)) ≤ suc k) → length (decimal n) ≤ suc (suc k)
+    go true e ih = omega (arith, ap length (decimal-digit n (ltb-true n 10 e)))
+    go false e ih =
+        let tenfold = pow-suc 10 (suc k) in
+        omega (arith, decimal-length-more n (ltb-false n 10 e), ih (omega arith))
+
+pub ten-digits : (n : ℕ) → n < 2 ^ 32 → length (decimal n) ≤ 10
+ten-digits n h = digits-few 9 n (omega arith)
 
 -- The digits of n over what stands at a place, the last digit first.
 pub decimal-turn : (at end n : ℕ) (out : List ℕ) → 10 ≤ n → end ≡ at + length (decimal n) → at + length (decimal n) ≤ length out

@@ -20,7 +20,7 @@ use Rattle.catalogue_laws.specs.Form.{entry-at-degree}
 use Rattle.catalogue_laws.specs.Missing.{HasEntry, missing-exactly}
 use Rattle.catalogue_laws.specs.Outcome.{looking-missing}
 use Rattle.catalogue_laws.specs.Reader.{handsOut}
-use Rattle.catalogue_laws.specs.Encoding.{Listed, bodyBytes, behindLists, catalogueBytes}
+use Rattle.definitions.specs.Writing.{Listed, bodyBytes, behindLists, catalogueBytes}
 use Rattle.catalogue_laws.specs.Rows.{numbersUpTo, rowOf, numbers-of-row}
 use Rattle.catalogue_laws.specs.Files.{LawfulListed, LawfulLists, none, more, Laid, laid-rest, laid-entry-is, laid-behind, catalogue-laid, catalogue-count}
 use Rattle.catalogue_laws.specs.Files.{catalogue-written}

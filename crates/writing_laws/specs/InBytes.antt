@@ -12,7 +12,7 @@ use Rattle.definitions.specs.Catalogue.{numberSize, countSize, offsetSize, firs
 use Rattle.number_laws.specs.Bounds.{LawfulDegree}
 use Rattle.number_laws.specs.Lists.{join-map-out}
 use Rattle.page_laws.specs.Members.{each-more}
-use Rattle.catalogue_laws.specs.Encoding.{bytesOf, Listed, pOf, qOf, stepOf, rowBytes, bodyBytes, entryBytes, contentsBytes, behindLists, catalogueBytes}
+use Rattle.definitions.specs.Writing.{bytesOf, Listed, pOf, qOf, stepOf, rowBytes, bodyBytes, entryBytes, contentsBytes, behindLists, catalogueBytes}
 use Rattle.catalogue_laws.specs.Written.{LawfulRow}
 use Rattle.catalogue_laws.specs.Files.{LawfulListed, LawfulLists, none, more, lists-few}
 use Rattle.writing_laws.specs.Held.{indexed, lawful-member}

@@ -2,21 +2,26 @@
 -- entry in order, T and the ranked rows in order, and no other degree; its length is a sum over the entries. For the row counts fit (`Few`) and each
 -- number fits its field (`Fields`), so the ranked lists are lawful, and a catalogue of lawful lists holds them (`Held`). Assumes nothing.
 use mathlib.Core.Path.{_≡_, refl, ap, _∙_}
-use mathlib.Core.Bool.{true}
+use mathlib.Core.Bool.{true, and-eq-true-iff}
 use mathlib.Core.List.{List, [], _∷_, _++_, map, List·Memᴰ, Memᴰ·map, Memᴰ·of-map}
-use Prim.Native.Nat.{ℕ, _+_, _*_, _^_, _<_}
+use Prim.Native.Nat.{ℕ, zero, suc, _+_, _*_, _^_, _<_}
 use native.Mathlib.Omega.{arith}
-use lib.ListN.{length, replicate, length-append, length-map}
+use lib.Dec.{ltb}
+use lib.ListN.{length, getD, replicate, length-append, length-map}
+use borrow.Author.Tests.{ltb-true, not-false}
 use Rattle.definitions.specs.declared.Selection.{Selection}
+use Rattle.definitions.specs.Number.{all}
 use Rattle.definitions.specs.Generator.{lawfulDegree}
-use Rattle.definitions.specs.Ranking.{ranked}
+use Rattle.definitions.specs.Ranking.{lawfulTop, ranked}
 use Rattle.definitions.specs.Catalogue.{offsetSize, entrySize, rowSize, firstEntry, catalogueForm, opening, lookupNumbers}
 use Rattle.definitions.specs.declared.NextRow.the-variants.{Found, End}
 use Rattle.definitions.specs.declared.Opening.the-variants.{Entries}
 use Rattle.definitions.specs.declared.Lookup.the-variants.{Body, NoBody}
 use Rattle.definitions.specs.declared.Refusal.the-variants.{DegreeMissing}
-use Rattle.number_laws.specs.Bounds.{LawfulDegree, LawfulTop}
-use Rattle.catalogue_laws.specs.Encoding.{Listed, bodyBytes, contentsBytes, behindLists, catalogueBytes}
+use Rattle.number_laws.specs.Bounds.{LawfulDegree, LawfulTop, lawfulDegree-is, lawfulTop-is}
+use Rattle.definitions.specs.Writing.{Listed, bodyBytes, contentsBytes, behindLists, catalogueBytes, rankedList, rankedFile}
+use Rattle.definitions.specs.Writing.{lawfulDegrees, lawfulTops, ascending, entering}
+use Rattle.answer_laws.specs.Unless.{NoneApplies, passes, at-end}
 use Rattle.catalogue_laws.specs.Rows.{rowOf}
 use Rattle.catalogue_laws.specs.Files.{LawfulListed, LawfulLists, none, more, Laid, bodiesBytes, body-length, catalogue-laid, catalogue-written}
 use Rattle.catalogue_laws.specs.RoundTrip.{written-opens}
@@ -26,18 +31,50 @@ use Rattle.writing_laws.specs.Fields.{ranked-lawful}
 use Rattle.writing_laws.specs.Held.{readBy, heldIn, numbers-held, rows-held, lists-held, others-missing}
 use Rattle.writing_laws.specs.InBytes.{InBytes, catalogue-bytes}
 
--- The list that an entry asks for.
-unfoldable pub rankedList : Selection → Listed
-rankedList l = record { degree = l .degree; top = l .top; rows = ranked l }
-
-unfoldable pub rankedFile : List Selection → List ℕ
-rankedFile ls = catalogueBytes (map rankedList ls)
-
 -- Lawful entries of ascending degrees, behind the degree `last`.
 pub data LawfulEntries : ℕ → List Selection → Type 0 where
   ends : {last : ℕ} → LawfulEntries last []
   next : {last : ℕ} {l : Selection} {ls : List Selection} → last < l .degree → LawfulDegree (l .degree) → LawfulTop (l .top)
       → LawfulEntries (l .degree) ls → LawfulEntries last (l ∷ ls)
+
+-- Entries that pass the three tests are such: down the entries, the first one lying above `last`.
+entries-behind : {last : ℕ} (l : Selection) (ls : List Selection) → last < l .degree
+    → lawfulDegrees (l ∷ ls) ≡ true → lawfulTops (l ∷ ls) ≡ true → ascending (l ∷ ls) ≡ true → LawfulEntries last (l ∷ ls)
+unfolding lawfulDegrees lawfulTops ascending all
+entries-behind l [] a degrees tops order =
+    next a (lawfulDegree-is (l .degree) .0 (and-eq-true-iff _ _ .0 degrees .0)) (lawfulTop-is (l .top) .0 (and-eq-true-iff _ _ .0 tops .0)) ends
+entries-behind l (k ∷ ls) a degrees tops order =
+    let d = and-eq-true-iff (lawfulDegree (l .degree)) (lawfulDegrees (k ∷ ls)) .0 degrees in
+    let t = and-eq-true-iff (lawfulTop (l .top)) (lawfulTops (k ∷ ls)) .0 tops in
+    let o = and-eq-true-iff (ltb (l .degree) (k .degree)) (ascending (k ∷ ls)) .0 order in
+    next a (lawfulDegree-is (l .degree) .0 (d .0)) (lawfulTop-is (l .top) .0 (t .0)) (entries-behind k ls (ltb-true _ _ (o .0)) (d .1) (t .1) (o .1))
+
+pub entries-lawful : (ls : List Selection) → lawfulDegrees ls ≡ true → lawfulTops ls ≡ true → ascending ls ≡ true → LawfulEntries 0 ls
+unfolding lawfulDegrees all
+entries-lawful [] degrees tops order = ends
+entries-lawful (l ∷ ls) degrees tops order =
+    let d = lawfulDegree-is (l .degree) .0 (and-eq-true-iff (lawfulDegree (l .degree)) (lawfulDegrees ls) .0 degrees .0) in
+    entries-behind l ls (omega (arith, d .low)) degrees tops order
+
+-- So are entries of which no situation applies.
+pub entering-lawful : (ls : List Selection) → NoneApplies (entering ls) → LawfulEntries 0 ls
+unfolding entering
+entering-lawful ls (passes degrees (passes tops (passes order at-end))) =
+    entries-lawful ls (not-false (lawfulDegrees ls) degrees) (not-false (lawfulTops ls) tops) (not-false (ascending ls) order)
+
+-- An entry where there is none.
+abbrev pub noEntry : Selection
+noEntry = record { degree = 0; top = 0 }
+
+-- Each of such entries is lawful.
+pub record LawfulEntry (l : Selection) : Type 0 where
+  pub degree-lawful : LawfulDegree (l .degree)
+  pub top-lawful : LawfulTop (l .top)
+
+pub entry-at : {last : ℕ} {ls : List Selection} → LawfulEntries last ls → (k : ℕ) → k < length ls → LawfulEntry (getD ls k noEntry)
+entry-at ends k h = absurd (omega (arith, h))
+entry-at (next a d t f) zero h = record { degree-lawful = d; top-lawful = t }
+entry-at (next a d t f) (suc k) h = entry-at f k (omega (arith, h))
 
 pub list-lawful : (l : Selection) → LawfulDegree (l .degree) → LawfulTop (l .top) → LawfulListed (rankedList l)
 unfolding rankedList

@@ -42,11 +42,11 @@ next-requires : tie.Need-next-requires Inv-loop μ-loop
 next-requires c κs = let at = c .before .before .before in (at .loop .inv .0, (row-fits at, text-fits at))
 
 -- The part that a turn ends with.
-abbrev called : tie.After-show-arg Inv-loop μ-loop → tie.After-next Inv-loop μ-loop
+abbrev called : tie.After-write-front-arg Inv-loop μ-loop → tie.After-next Inv-loop μ-loop
 called c = c .before .before .before .before .before
 
-show-requires : tie.Need-show-requires Inv-loop μ-loop
-show-requires c κs =
+write-front-requires : tie.Need-write-front-requires Inv-loop μ-loop
+write-front-requires c κs =
     let next = called c in
     let at = turn next in
     put-part (fit at) (at .loop .at) (at .loop .text) (next .next .ensures .0) (next .next .ensures .1 .1) .0
@@ -71,4 +71,4 @@ loop-again c =
 
 pub print-parts-spec : {M : Type 1} → statement M
 print-parts-spec =
-    tie.close (tie.spec Inv-loop μ-loop loop-holds next-requires show-requires loop-less loop-again (search needs) (search needs) (search needs))
+    tie.close (tie.spec Inv-loop μ-loop loop-holds next-requires write-front-requires loop-less loop-again (search needs) (search needs) (search needs))

@@ -6,7 +6,7 @@ use Rattle.listing_program.proofs.program.run_within.Statement.{stateme
 use Rattle.listing_program.proofs.program.run_within.Tie as tie
 
 slice-aggregate-print : tie.Need-slice-aggregate-print
-slice-aggregate-print c = sym (length-take-le _ _ (c .before .before .read-input .ensures))
+slice-aggregate-print c = sym (length-take-le _ _ (c .before .before .read-line .ensures))
 
 pub run-within-spec : {M : Type 1} → statement M
 run-within-spec = tie.close (tie.spec (search needs) (search needs) (search needs) slice-aggregate-print (search needs) (search needs))

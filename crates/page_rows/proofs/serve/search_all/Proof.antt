@@ -25,14 +25,16 @@ nothing-found : tie.Need-visit-requires
 nothing-found c κs =
     let e = entry c in
     let g = e .args in
-    laws.ready (g .list) (g .after) (g .last .now) (g .out .now) (capacity c) (e .pre .0) (capacity-is c) (e .pre .1) (e .pre .2)
+    let out = g .out .now in
+    laws.ready (g .list) (g .after) (g .last .now) out (capacity c) (e .pre .0) (e .pre .1)
+    (laws.fitting-some (g .list) out (capacity-is c) (e .pre .2)) (laws.fitting-room (g .list) out (capacity-is c))
 
 all-found : tie.Need-returns
 all-found c =
     let w = walking c in
     let e = entry w in
     let g = e .args in
-    laws.searched (g .list) (g .after) (g .last .now) (g .out .now) (capacity w) (e .pre .0) (capacity-is w) (c .before .before .before .visit .ensures)
+    laws.searched (g .list) (g .after) (g .last .now) (g .out .now) (capacity w) (e .pre .0) (c .before .before .before .visit .ensures) (capacity-is w)
 
 pub search-all-spec : {M : Type 1} → statement M
 search-all-spec = tie.close (tie.spec (λ c κs. search needs) (λ c. search needs) nothing-found (λ c. search needs) all-found)

@@ -1,0 +1,64 @@
+-- `do_ascend` compares each degree with the one before it. The invariant: those before k ascend, so the entries from k - 1 on decide.
+-- Assumes nothing.
+use mathlib.Core.Path.{_≡_, refl, sym}
+use mathlib.Core.List.{List}
+use Prim.Native.Nat.{suc, _+_, _-_, _≤_}
+use native.Mathlib.Omega.{arith}
+use lib.ListN.{drop}
+use borrow.Author.Needs.{needs}
+use Rattle.definitions.specs.declared.Selection.{Selection}
+use Rattle.definitions.specs.Writing.{entriesOf, ascending}
+use Rattle.catalogue_entries.proofs.LoopLaws as laws
+use Rattle.catalogue_entries.proofs.do_ascend.Statement.{statement}
+use Rattle.catalogue_entries.proofs.do_ascend.Tie as tie
+
+abbrev RestDecides : tie.InvT-loop
+RestDecides entries n k₀ k = (1 ≤ k) × (ascending (entriesOf entries) ≡ ascending (drop (k - 1) (entriesOf entries)))
+
+abbrev remaining : tie.MeasureT-loop
+remaining entries n k₀ k = n - k
+
+abbrev listed : tie.At-loop RestDecides remaining → List Selection
+listed c = entriesOf (c .before .before .before .args .entries .now)
+
+-- In a turn both entries are read, that at k first.
+abbrev both-read : tie.After-struct-known2 RestDecides remaining → tie.After-entry2 RestDecides remaining
+both-read c = c .before .before
+
+abbrev turn : tie.After-entry2 RestDecides remaining → tie.At-loop RestDecides remaining
+turn c = c .before .before .before
+
+just-before : (c : tie.At-loop RestDecides remaining) → c .loop .k ≡ suc (c .loop .k - 1)
+just-before c = omega (arith, c .loop .inv .0)
+
+all-decide : tie.Need-loop-holds RestDecides remaining
+all-decide c = (search needs, refl)
+
+fails : tie.Need-returns RestDecides remaining
+fails c =
+    let r = both-read (c .before) in
+    let t = turn r in
+    let k = t .loop .k in
+    sym
+    (laws.ascending-stop (listed t) (k - 1) k (just-before t) (t .loop .inv .1) (search needs) (r .entry2 .ensures) (r .before .entry .ensures) (search needs))
+
+passes : tie.Need-loop-again RestDecides remaining
+passes c =
+    let r = both-read (c .before) in
+    let t = turn r in
+    let k = t .loop .k in
+    let back : k + 1 - 1 ≡ k = omega arith in
+    let on =
+    laws.ascending-on (listed t) (k - 1) k (just-before t) (t .loop .inv .1) (search needs) (r .entry2 .ensures) (r .before .entry .ensures) (search needs) in
+    (search needs, rw back on)
+
+ends : tie.Need-returns-2 RestDecides remaining
+ends c =
+    let t = c .before in
+    sym (laws.ascending-end (listed t) (t .loop .k - 1) (t .loop .k) (just-before t) (t .loop .inv .1) (search needs))
+
+pub do-ascend-spec : {M : Type 1} → statement M
+do-ascend-spec =
+    tie.close
+    (tie.spec RestDecides remaining (λ c κs. search needs) all-decide (λ c κs. search needs) (λ c. search needs) (λ c κs. search needs) fails
+    (λ c. search needs) (λ c. search needs) passes ends)

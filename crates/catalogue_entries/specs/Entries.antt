@@ -1,0 +1,40 @@
+-- The entries of a slice, by their numbers: there are half as many, rounded up, and the entry at k has the numbers at 2k and 2k + 1. By recursion
+-- over the slice, two numbers at a time. Assumes nothing.
+use mathlib.Core.Path.{_≡_, refl}
+use mathlib.Core.List.{List, [], _∷_}
+use Prim.Native.Nat.{ℕ, zero, suc, _+_, _*_, _/_, _%_, _<_}
+use native.Mathlib.Numerals.{unary-clauses}
+use native.Mathlib.Omega.{arith}
+use lib.ListN.{length, getD}
+use Rattle.definitions.specs.declared.Selection.{Selection}
+use Rattle.definitions.specs.Writing.{entriesOf, lawfulDegrees, lawfulTops}
+use Rattle.writing_laws.specs.RankedFile.{noEntry}
+use Rattle.catalogue_entries.specs.declared.Lawful.{Lawful}
+
+-- The entry at k.
+abbrev pub entryIn : List ℕ → ℕ → Selection
+entryIn e k = getD (entriesOf e) k noEntry
+
+-- What the tests of all degrees and of all T say.
+abbrev pub lawfulOf : List Selection → Lawful
+lawfulOf l = record { degrees = lawfulDegrees l; tops = lawfulTops l }
+
+pub entries-length : (e : List ℕ) → length (entriesOf e) ≡ length e / 2 + length e % 2
+unfolding entriesOf
+entries-length [] = refl
+entries-length (m ∷ []) = refl
+entries-length (m ∷ top ∷ e) = omega (arith, entries-length e)
+
+-- So the degree of an entry is there.
+pub entry-within : (e : List ℕ) (k : ℕ) → k < length (entriesOf e) → 2 * k < length e
+entry-within e k h = omega (arith, entries-length e, h)
+
+pub entry-is : (e : List ℕ) (k : ℕ) → entryIn e k ≡ record { degree = getD e (2 * k) 0; top = getD e (2 * k + 1) 0 }
+unfolding entriesOf
+entry-is [] k = refl
+entry-is (m ∷ []) zero = refl
+entry-is (m ∷ []) (suc k) = simp unary-clauses
+entry-is (m ∷ top ∷ e) zero = refl
+entry-is (m ∷ top ∷ e) (suc k) =
+    let rest = entry-is e k in
+    simp unary-clauses (simp unary-clauses at rest)

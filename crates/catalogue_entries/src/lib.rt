@@ -1,0 +1,84 @@
+// The entries that a catalogue is asked for, in a lent slice that comes unchecked: degree, T, degree, T, .. Customers call nothing here.
+ghost use mathlib.Core.Path.{_≡_};
+ghost use mathlib.Core.Bool.{_&&_};
+ghost use Prim.Native.Nat.{_+_, _<_};
+ghost use lib.ListN.{length, getD};
+ghost use Rattle.definitions.specs.Writing.{entriesOf, ascending};
+ghost use Rattle.catalogue_entries.specs.Entries.{entryIn, lawfulOf};
+use definitions::Selection;
+
+// How many entries there are, a last one without T included.
+pub fn count(entries: &[u32]) -> usize
+    ensures { λ r. ⌜ r ≡ length (entriesOf (now (entries .entry))) ⌝ }
+{
+    entries.len() / 2 + entries.len() % 2
+}
+
+// T of the entry whose degree stands at a place; where it is missing 0, which is no lawful T.
+fn top_behind(entries: &[u32], place: usize) -> u32
+    requires { ⌜ place < length (now entries) ⌝ }
+    ensures { λ r. ⌜ r ≡ getD (now (entries .entry)) (place + 1) 0 ⌝ }
+{
+    if place + 1 < entries.len() {
+        return entries[place + 1];
+    }
+    0
+}
+
+// The entry at k.
+pub fn entry(entries: &[u32], k: usize) -> Selection
+    requires { ⌜ k < length (entriesOf (now entries)) ⌝ }
+    ensures { λ r. ⌜ r ≡ entryIn (now (entries .entry)) k ⌝ }
+{
+    let place = 2 * k;
+    Selection {
+        degree: entries[place],
+        top: top_behind(entries, place),
+    }
+}
+
+// Whether each degree is lawful, and whether each T is.
+pub struct Lawful {
+    pub degrees: bool,
+    pub tops: bool,
+}
+
+fn both(a: bool, b: bool) -> bool
+    ensures { λ r. ⌜ r ≡ (a && b) ⌝ }
+{
+    if a {
+        return b;
+    }
+    false
+}
+
+pub fn are_lawful(entries: &[u32]) -> Lawful
+    ensures { λ r. ⌜ r ≡ lawfulOf (entriesOf (now (entries .entry))) ⌝ }
+{
+    let n = count(entries);
+    let mut degrees = true;
+    let mut tops = true;
+    let mut k = 0;
+    while k < n {
+        let list = entry(entries, k);
+        degrees = both(degrees, limits::is_lawful_degree(list.degree));
+        tops = both(tops, limits::is_lawful_top(list.top));
+        k += 1;
+    }
+    Lawful { degrees, tops }
+}
+
+// Whether each degree is above the one before it.
+pub fn do_ascend(entries: &[u32]) -> bool
+    ensures { λ r. ⌜ r ≡ ascending (entriesOf (now (entries .entry))) ⌝ }
+{
+    let n = count(entries);
+    let mut k = 1;
+    while k < n {
+        if entry(entries, k).degree <= entry(entries, k - 1).degree {
+            return false;
+        }
+        k += 1;
+    }
+    true
+}

@@ -1,0 +1,57 @@
+// The rows of a body, written over a buffer.
+ghost use mathlib.Core.Path.{_≡_};
+ghost use mathlib.Core.List.{map};
+ghost use Prim.Native.Nat.{_+_, _*_, _≤_};
+ghost use lib.ListN.{length, take, drop};
+ghost use Rattle.definitions.specs.Number.{join, over};
+ghost use Rattle.definitions.specs.Ranking.{rowWidth};
+ghost use Rattle.definitions.specs.Catalogue.{rowSize};
+ghost use Rattle.definitions.specs.Writing.{rowBytes};
+ghost use Rattle.number_laws.specs.Bounds.{LawfulDegree, LawfulTop};
+ghost use Rattle.page_laws.specs.Rows.{rowsOf};
+ghost use Rattle.catalogue_laws.specs.Written.{LawfulRow, LawfulRows};
+use crate::numbers::write_bytes;
+use crate::numbers::write_number;
+use catalogue_bytes::sizes;
+use definitions::Selection;
+
+// The row whose numbers stand at a place of a slice: p without its leading term, q and the step, then the t-values.
+fn write_row(file: &mut [u8], at: usize, list: Selection, rows: &[u32], from: usize)
+    requires { ⌜ LawfulDegree (list .degree) × LawfulTop (list .top) ⌝ }
+    requires { ⌜ from + rowWidth list ≤ length (now rows) ⌝ }
+    requires { ⌜ LawfulRow (list .degree) (list .top) (take (rowWidth list) (drop from (now rows))) ⌝ }
+    requires { ⌜ at + rowSize (list .degree) (list .top) ≤ length (now file) ⌝ }
+    ensures { λ _. ⌜ now (file .exit) ≡ over at (rowBytes (list .degree) (take (rowWidth list) (drop from (now (rows .entry))))) (now (file .entry)) ⌝ }
+{
+    let degree = list.degree;
+    let width = sizes::number_size(degree);
+    write_number(file, at, width, rows[from] - (1 << degree));
+    write_number(file, at + width, width, rows[from + 1]);
+    write_number(file, at + 2 * width, width, rows[from + 2]);
+    let values = sizes::value_count(list.top);
+    write_bytes(
+        file,
+        at + sizes::NUMBERS * width,
+        rows,
+        from + sizes::NUMBERS,
+        values,
+    );
+}
+
+// The first `count` rows of a slice, one behind the other.
+pub fn write_rows(file: &mut [u8], at: usize, list: Selection, rows: &[u32], count: usize)
+    requires { ⌜ LawfulDegree (list .degree) × LawfulTop (list .top) ⌝ }
+    requires { ⌜ count * rowWidth list ≤ length (now rows) ⌝ }
+    requires { ⌜ LawfulRows (list .degree) (list .top) (rowsOf (rowWidth list) count (now rows)) ⌝ }
+    requires { ⌜ at + count * rowSize (list .degree) (list .top) ≤ length (now file) ⌝ }
+    ensures { λ _. ⌜ now (file .exit)
+        ≡ over at (join (map (rowBytes (list .degree)) (rowsOf (rowWidth list) count (now (rows .entry))))) (now (file .entry)) ⌝ }
+{
+    let size = sizes::row_size(list.degree, list.top);
+    let width = list.top as usize + 1;
+    let mut k = 0;
+    while k < count {
+        write_row(file, at + k * size, list, rows, k * width);
+        k += 1;
+    }
+}

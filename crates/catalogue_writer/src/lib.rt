@@ -1,0 +1,30 @@
+// Writes a catalogue: the file of the ranked lists that entries ask for, into a lent buffer. Entries and buffer come unchecked.
+use catalogue_file::filing;
+use catalogue_file::measure;
+use definitions::FileAnswer;
+use definitions::Refusal;
+ghost use mathlib.Core.Path.{_≡_};
+ghost use Rattle.definitions.specs.Writing.{fileAnswer, fileBuffer};
+
+// Writes the file over the front of the buffer, and answers its length. `entries` is degree, T, degree, T, ..
+pub fn write(entries: &[u32], file: &mut [u8]) -> FileAnswer
+    ensures { λ r. ⌜ r ≡ fileAnswer (now (entries .entry)) (now (file .entry)) ⌝ }
+    ensures { λ _. ⌜ now (file .exit) ≡ fileBuffer (now (entries .entry)) (now (file .entry)) ⌝ }
+{
+    let lawful = catalogue_entries::are_lawful(entries);
+    if !lawful.degrees {
+        return FileAnswer::NoFile(Refusal::WrongDegree);
+    }
+    if !lawful.tops {
+        return FileAnswer::NoFile(Refusal::WrongDimension);
+    }
+    if !catalogue_entries::do_ascend(entries) {
+        return FileAnswer::NoFile(Refusal::NotAscending);
+    }
+    let measured = measure::take_measure(entries);
+    if file.len() < measured.length {
+        return FileAnswer::NoFile(Refusal::FileTooLong);
+    }
+    filing::write_file(entries, measured.contents, file);
+    FileAnswer::File(measured.length)
+}

@@ -1,0 +1,126 @@
+-- Writing a catalogue: the bytes of a file that holds given lists, which `Catalogue.antt` reads; the file that entries ask for; what the call answers
+-- and leaves in the lent buffer; and the program that writes a file. Assumes nothing.
+use Rattle.definitions.specs.Base.{Bool, true, not, _&&_, List, [], _∷_, _++_, map, ℕ, zero, suc, _+_, _-_, _*_, _/_, _%_, _^_, ltb, length, drop}
+use Rattle.definitions.specs.Base.{getD, Selection, Refusal, WrongDegree, WrongDimension, NotAscending, FileTooLong, FileAnswer, File, NoFile}
+use Rattle.definitions.specs.Number.{all, join, over}
+use Rattle.definitions.specs.Answers.{refusalNumber, Situation, situation, unless}
+use Rattle.definitions.specs.Generator.{lawfulDegree}
+use Rattle.definitions.specs.Ranking.{lawfulTop, ranksFrom, ranked}
+use Rattle.definitions.specs.Catalogue.{numberSize, countSize, offsetSize, entrySize, firstEntry, mostEntries}
+use Rattle.definitions.specs.Listing.{numbersWithin, refusedText, unreadable}
+
+-- ---- the bytes of a file
+
+-- A number in w bytes, big-endian.
+unfoldable pub bytesOf : ℕ → ℕ → List ℕ
+bytesOf zero n = []
+bytesOf (suc w) n = bytesOf w (n / 256) ++ (n % 256 ∷ [])
+
+-- The ranked rows, or any others, of a degree.
+pub record Listed : Type 0 where
+  pub degree : ℕ
+  pub top : ℕ
+  pub rows : List (List ℕ)
+
+-- In a row's numbers: p, q and σ, before the t-values.
+abbrev pub pOf : List ℕ → ℕ
+pOf r = getD r 0 0
+
+abbrev pub qOf : List ℕ → ℕ
+qOf r = getD r 1 0
+
+abbrev pub stepOf : List ℕ → ℕ
+stepOf r = getD r 2 0
+
+-- A row: p without its leading term, q and σ, then t(3) .. t(T) in one byte each.
+unfoldable pub rowBytes : ℕ → List ℕ → List ℕ
+rowBytes m r =
+    let w : ℕ = numberSize m in
+    bytesOf w (pOf r - 2 ^ m) ++ bytesOf w (qOf r) ++ bytesOf w (stepOf r) ++ drop ranksFrom r
+
+unfoldable pub bodyBytes : Listed → List ℕ
+bodyBytes l = join (map (rowBytes (l .degree)) (l .rows))
+
+-- An entry: the degree, T, the row count, the place of the body.
+unfoldable pub entryBytes : Listed → ℕ → List ℕ
+entryBytes l offset = l .degree ∷ l .top ∷ bytesOf (countSize (l .degree)) (length (l .rows)) ++ bytesOf offsetSize offset
+
+-- The entries, the first body lying at `at`.
+unfoldable pub contentsBytes : List Listed → ℕ → List ℕ
+contentsBytes [] at = []
+contentsBytes (l ∷ ls) at = entryBytes l at ++ contentsBytes ls (at + length (bodyBytes l))
+
+-- The place behind the entries of the lists, the first entry lying at i.
+unfoldable pub behindLists : List Listed → ℕ → ℕ
+behindLists [] i = i
+behindLists (l ∷ ls) i = behindLists ls (i + entrySize (l .degree))
+
+-- How many entries there are, the entries, the bodies.
+unfoldable pub catalogueBytes : List Listed → List ℕ
+catalogueBytes ls = length ls ∷ contentsBytes ls (behindLists ls firstEntry) ++ join (map bodyBytes ls)
+
+-- ---- the file that is asked for
+
+-- The entries of a lent slice: degree, T, degree, T, .. For a last T that is missing stands 0, which is no lawful T.
+unfoldable pub entriesOf : List ℕ → List Selection
+entriesOf [] = []
+entriesOf (m ∷ []) = record { degree = m; top = 0 } ∷ []
+entriesOf (m ∷ top ∷ e) = record { degree = m; top = top } ∷ entriesOf e
+
+-- What the file holds for an entry: the ranked list.
+unfoldable pub rankedList : Selection → Listed
+rankedList l = record { degree = l .degree; top = l .top; rows = ranked l }
+
+unfoldable pub rankedFile : List Selection → List ℕ
+rankedFile ls = catalogueBytes (map rankedList ls)
+
+-- Each degree is lawful, and each T.
+unfoldable pub lawfulDegrees : List Selection → Bool
+lawfulDegrees ls = all (λ (l : Selection). lawfulDegree (l .degree)) ls
+
+unfoldable pub lawfulTops : List Selection → Bool
+lawfulTops ls = all (λ (l : Selection). lawfulTop (l .top)) ls
+
+-- Each degree is above the one before it.
+unfoldable pub ascending : List Selection → Bool
+ascending [] = true
+ascending (l ∷ []) = true
+ascending (l ∷ k ∷ ls) = ltb (l .degree) (k .degree) && ascending (k ∷ ls)
+
+-- ---- the call
+
+-- The situations that concern the entries: 1, 2, 13.
+unfoldable pub entering : List Selection → List Situation
+entering ls =
+    situation (not (lawfulDegrees ls)) WrongDegree
+    ∷ situation (not (lawfulTops ls)) WrongDimension
+    ∷ situation (not (ascending ls)) NotAscending
+    ∷ []
+
+-- Writing: these, then 14 where the file is longer than the buffer.
+unfoldable pub writing : List ℕ → List ℕ → List Situation
+writing e s = entering (entriesOf e) ++ situation (ltb (length s) (length (rankedFile (entriesOf e)))) FileTooLong ∷ []
+
+-- The length of the file.
+unfoldable pub fileAnswer : List ℕ → List ℕ → FileAnswer
+fileAnswer e s = unless (writing e s) NoFile (File (length (rankedFile (entriesOf e))))
+
+-- The file over the front of the buffer; the bytes behind it stay.
+unfoldable pub fileBuffer : List ℕ → List ℕ → List ℕ
+fileBuffer e s = unless (writing e s) (λ (n : Refusal). s) (over 0 (rankedFile (entriesOf e)) s)
+
+-- ---- the program
+
+-- The numbers of a line that asks for a file: at most a degree and T for each lawful degree; none where the line cannot be read or has more.
+abbrev pub lineEntries : List ℕ → List ℕ
+lineEntries s = numbersWithin (2 * mostEntries) s
+
+-- What is written for such numbers to standard output: the file, or nothing,
+unfoldable pub fileOutput : List ℕ → List ℕ
+fileOutput [] = []
+fileOutput (m ∷ e) = unless (entering (entriesOf (m ∷ e))) (λ (n : Refusal). []) (rankedFile (entriesOf (m ∷ e)))
+
+-- and to standard error: nothing, or the line of a refusal.
+unfoldable pub fileErrors : List ℕ → List ℕ
+fileErrors [] = refusedText unreadable
+fileErrors (m ∷ e) = unless (entering (entriesOf (m ∷ e))) (λ (n : Refusal). refusedText (refusalNumber n)) []

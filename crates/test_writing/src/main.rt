@@ -1,0 +1,107 @@
+// Catalogues written: each line of the input is the length of a buffer, and the entries. Before the call each byte of the buffer is 165. Printed are
+// the line as it came and what the call did:
+//     length LENGTH                   of the file; or, where there is none,
+//     refused NUMBER
+//     BYTES                           of the file in hexadecimal, 32 to a line
+//     untouched COUNT                 how many of the other bytes of the buffer are 165
+ghost use Prim.Native.Nat.{_<_};
+ghost use lib.ListN.{length};
+use definitions::FileAnswer;
+use libc::STDOUT_FILENO;
+
+// As many lines as the input has.
+const LINES: u32 = 44;
+
+const LINE_ROOM: usize = 320;
+
+// The room, and more entries than there are degrees.
+const MOST_NUMBERS: usize = 40;
+
+// The largest room, and what every byte of it is before a call.
+const FILE_ROOM: usize = 65536;
+
+const BEFORE: u8 = 165;
+
+fn new_line() {
+    io::write_all(STDOUT_FILENO, b"\n");
+}
+
+fn print_byte(byte: u8) {
+    io::print_hex(STDOUT_FILENO, byte as u64, 2);
+}
+
+// A word and a number.
+fn print_number(word: &[u8], n: usize) {
+    io::write_all(STDOUT_FILENO, word);
+    io::print_decimal(STDOUT_FILENO, n as u64);
+    new_line();
+}
+
+// The first n bytes, and how many of the others are as they were.
+fn print_buffer(file: &[u8], n: usize) {
+    let mut untouched = 0;
+    let mut k = 0;
+    while k < file.len() {
+        if k < n {
+            print_byte(file[k]);
+            if k % 32 == 31 {
+                new_line();
+            }
+        } else if file[k] == BEFORE {
+            untouched += 1;
+        }
+        k += 1;
+    }
+    if n % 32 > 0 {
+        new_line();
+    }
+    print_number(b"untouched ", untouched);
+}
+
+fn write(entries: &[u32], file: &mut [u8]) {
+    match catalogue_writer::write(entries, file) {
+        FileAnswer::File(length) => {
+            print_number(b"length ", length);
+            print_buffer(file, length);
+        }
+        FileAnswer::NoFile(refusal) => {
+            print_number(b"refused ", answers::refusal_number(refusal) as usize);
+            print_buffer(file, 0);
+        }
+    }
+}
+
+// The room comes first.
+fn write_within(numbers: &[u32])
+    requires { ⌜ 0 < length (now numbers) ⌝ }
+{
+    let mut file = [BEFORE; FILE_ROOM];
+    let room = numbers[0] as usize;
+    if room <= FILE_ROOM {
+        write(&numbers[1..], &mut file[..room]);
+    }
+}
+
+// The next line of standard input.
+fn write_line() {
+    let mut input = [b'\n'; LINE_ROOM];
+    let n = streams::read_line(&mut input);
+    streams::write_front(STDOUT_FILENO, &input, n);
+    new_line();
+    let mut numbers = [0u32; MOST_NUMBERS];
+    let count = line::read_numbers(&input, &mut numbers);
+    if count > 0 {
+        write_within(&numbers[..count]);
+    }
+}
+
+fn main() {
+    for _ in 0..LINES {
+        write_line();
+    }
+    // Numbers of ten digits, which no line has.
+    io::write_all(STDOUT_FILENO, b"100 4294967295 4\n");
+    write_within(&[100, 4294967295, 4]);
+    io::write_all(STDOUT_FILENO, b"100 3 4294967295\n");
+    write_within(&[100, 3, 4294967295]);
+}
