@@ -6,7 +6,7 @@ use definitions::Refusal;
 ghost use mathlib.Core.Path.{_≡_};
 ghost use Rattle.definitions.specs.Writing.{fileAnswer, fileBuffer};
 
-// Writes the file over the front of the buffer, and answers its length. `entries` is degree, T, degree, T, ..
+// Writes the file over the front of the buffer, and answers its length; or document 02's refusal 1, 2, 13 or 14. `entries` is degree, T, degree, T, ..
 pub fn write(entries: &[u32], file: &mut [u8]) -> FileAnswer
     ensures { λ r. ⌜ r ≡ fileAnswer (now (entries .entry)) (now (file .entry)) ⌝ }
     ensures { λ _. ⌜ now (file .exit) ≡ fileBuffer (now (entries .entry)) (now (file .entry)) ⌝ }
