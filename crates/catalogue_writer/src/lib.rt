@@ -1,6 +1,6 @@
 // Writes a catalogue: the file of the ranked lists that entries ask for, into a lent buffer. Entries and buffer come unchecked.
-use catalogue_file::filing;
-use catalogue_file::measure;
+use catalogue_file::write_file;
+use catalogue_measure::take_measure;
 use definitions::FileAnswer;
 use definitions::Refusal;
 ghost use mathlib.Core.Path.{_≡_};
@@ -21,10 +21,10 @@ pub fn write(entries: &[u32], file: &mut [u8]) -> FileAnswer
     if !catalogue_entries::do_ascend(entries) {
         return FileAnswer::NoFile(Refusal::NotAscending);
     }
-    let measured = measure::take_measure(entries);
+    let measured = take_measure(entries);
     if file.len() < measured.length {
         return FileAnswer::NoFile(Refusal::FileTooLong);
     }
-    filing::write_file(entries, measured.contents, file);
+    write_file(entries, measured.contents, file);
     FileAnswer::File(measured.length)
 }

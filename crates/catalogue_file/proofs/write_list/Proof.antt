@@ -9,8 +9,8 @@ use Rattle.definitions.specs.Ranking.{ranked}
 use Rattle.definitions.specs.Catalogue.{rowSize}
 use Rattle.catalogue_fields.specs.Entry.{entryFields, entry-fields}
 use Rattle.catalogue_file.proofs.FilingLaws as laws
-use Rattle.catalogue_file.proofs.filing.write_list.Statement.{statement}
-use Rattle.catalogue_file.proofs.filing.write_list.Tie as tie
+use Rattle.catalogue_file.proofs.write_list.Statement.{statement}
+use Rattle.catalogue_file.proofs.write_list.Tie as tie
 
 -- Behind the body, and behind the entry and a row's size.
 abbrev start : tie.After-write-body → tie.Start

@@ -1,4 +1,5 @@
-// Where the first body of a file of lawful entries lies, and how long the file is: each list is counted by a search of its own.
+// Where the first body of a file of lawful entries lies, and how long the file is: each list is counted by a search of its own. Customers call
+// nothing here.
 ghost use mathlib.Core.Path.{_≡_};
 ghost use Prim.Native.Nat.{_*_};
 ghost use lib.ListN.{length};
@@ -7,7 +8,7 @@ ghost use Rattle.definitions.specs.Catalogue.{rowSize};
 ghost use Rattle.definitions.specs.Writing.{entriesOf};
 ghost use Rattle.writing_laws.specs.RankedFile.{LawfulEntries};
 ghost use Rattle.search.specs.Frame.{LawfulList};
-ghost use Rattle.catalogue_file.specs.Measure.{measureOf};
+ghost use Rattle.catalogue_measure.specs.Measure.{measureOf};
 use catalogue_bytes::sizes;
 use catalogue_entries::count;
 use catalogue_entries::entry;

@@ -9,8 +9,8 @@ use Rattle.definitions.specs.declared.Selection.{Selection}
 use Rattle.definitions.specs.Writing.{entriesOf, rankedFile}
 use Rattle.writing_laws.specs.Turns.{Filing, filing-end}
 use Rattle.catalogue_file.proofs.FilingLaws as laws
-use Rattle.catalogue_file.proofs.filing.write_file.Statement.{statement}
-use Rattle.catalogue_file.proofs.filing.write_file.Tie as tie
+use Rattle.catalogue_file.proofs.write_file.Statement.{statement}
+use Rattle.catalogue_file.proofs.write_file.Tie as tie
 
 abbrev Underway : tie.InvT-loop
 Underway entries contents file₀ rows₀ n place₀ at₀ k₀ file rows place at k = Filing (entriesOf entries) file₀ k place at file × (length rows ≡ length rows₀)

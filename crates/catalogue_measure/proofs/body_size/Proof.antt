@@ -7,8 +7,8 @@ use borrow.Author.Needs.{needs}
 use Rattle.definitions.specs.Ranking.{ranked}
 use Rattle.definitions.specs.Catalogue.{rowSize}
 use Rattle.writing_laws.specs.Turns.{body-size-small}
-use Rattle.catalogue_file.proofs.measure.body_size.Statement.{statement}
-use Rattle.catalogue_file.proofs.measure.body_size.Tie as tie
+use Rattle.catalogue_measure.proofs.body_size.Statement.{statement}
+use Rattle.catalogue_measure.proofs.body_size.Tie as tie
 
 size-is : (c : tie.After-row-size) → let l = c .before .before .args .list in
     c .before .count-rows .result * c .row-size .result ≡ length (ranked l) * rowSize (l .degree) (l .top)

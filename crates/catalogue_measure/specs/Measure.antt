@@ -4,7 +4,7 @@ use lib.ListN.{length}
 use Rattle.definitions.specs.declared.Selection.{Selection}
 use Rattle.definitions.specs.Catalogue.{firstEntry}
 use Rattle.definitions.specs.Writing.{rankedList, rankedFile, behindLists}
-use Rattle.catalogue_file.specs.declared.measure.Measure.{Measure}
+use Rattle.catalogue_measure.specs.declared.Measure.{Measure}
 
 abbrev pub measureOf : List Selection → Measure
 measureOf ls = record { contents = behindLists (map rankedList ls) firstEntry; length = length (rankedFile ls) }

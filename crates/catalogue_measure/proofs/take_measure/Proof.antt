@@ -11,9 +11,9 @@ use Rattle.definitions.specs.Ranking.{ranked}
 use Rattle.definitions.specs.Catalogue.{rowSize}
 use Rattle.definitions.specs.Writing.{entriesOf}
 use Rattle.writing_laws.specs.RankedFile.{entry-at}
-use Rattle.catalogue_file.proofs.MeasureLaws as laws
-use Rattle.catalogue_file.proofs.measure.take_measure.Statement.{statement}
-use Rattle.catalogue_file.proofs.measure.take_measure.Tie as tie
+use Rattle.catalogue_measure.proofs.MeasureLaws as laws
+use Rattle.catalogue_measure.proofs.take_measure.Statement.{statement}
+use Rattle.catalogue_measure.proofs.take_measure.Tie as tie
 
 abbrev Measured : tie.InvT-loop
 Measured entries n contents₀ bodies₀ k₀ contents bodies k = laws.Measured (entriesOf entries) k contents bodies

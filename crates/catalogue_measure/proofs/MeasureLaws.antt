@@ -12,8 +12,8 @@ use Rattle.definitions.specs.Writing.{rankedFile, behindLists}
 use Rattle.catalogue_laws.specs.Files.{bodiesBytes, contents-length, catalogue-length}
 use Rattle.writing_laws.specs.RankedFile.{LawfulEntries, noEntry, lists-lawful, file-small}
 use Rattle.writing_laws.specs.Turns.{lists, bodies-end, bodies-turn, contents-end, contents-turn}
-use Rattle.catalogue_file.specs.Measure.{measureOf}
-use Rattle.catalogue_file.specs.declared.measure.Measure.{Measure}
+use Rattle.catalogue_measure.specs.Measure.{measureOf}
+use Rattle.catalogue_measure.specs.declared.Measure.{Measure}
 
 -- The entries before k end at the place, and their bodies have so many bytes.
 pub record Measured (ls : List Selection) (k contents bodies : ℕ) : Type 0 where
