@@ -6,8 +6,8 @@ ghost use Rattle.definitions.specs.Number.{over};
 ghost use Rattle.definitions.specs.Catalogue.{entrySize};
 ghost use Rattle.number_laws.specs.Bounds.{LawfulDegree, LawfulTop};
 ghost use Rattle.catalogue_fields.specs.Entry.{entryFields};
-use crate::numbers::write_number;
 use catalogue_bytes::sizes;
+use catalogue_numbers::write_number;
 use definitions::Selection;
 
 // The degree, T, the row count and the place of the body.

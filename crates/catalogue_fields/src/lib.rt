@@ -1,4 +1,3 @@
-// A catalogue's numbers, rows and entries, written over a buffer. Customers call nothing here.
-pub mod numbers; // a number in so many bytes, and numbers of a byte each
+// The rows of a body and the entries of the contents, written over a buffer. Customers call nothing here.
 pub mod rows; // the rows of a body
 pub mod entry; // an entry of the contents

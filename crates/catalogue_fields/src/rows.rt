@@ -10,9 +10,9 @@ ghost use Rattle.definitions.specs.Writing.{rowBytes};
 ghost use Rattle.number_laws.specs.Bounds.{LawfulDegree, LawfulTop};
 ghost use Rattle.page_laws.specs.Rows.{rowsOf};
 ghost use Rattle.catalogue_laws.specs.Written.{LawfulRow, LawfulRows};
-use crate::numbers::write_bytes;
-use crate::numbers::write_number;
 use catalogue_bytes::sizes;
+use catalogue_numbers::write_bytes;
+use catalogue_numbers::write_number;
 use definitions::Selection;
 
 // The row whose numbers stand at a place of a slice: p without its leading term, q and the step, then the t-values.

@@ -1,4 +1,4 @@
-// Numbers in bytes, big-endian, written over a buffer.
+// Numbers in bytes, big-endian, written over a buffer. Customers call nothing here.
 ghost use mathlib.Core.Path.{_≡_};
 ghost use Prim.Native.Nat.{ℕ, _+_, _<_, _≤_};
 ghost use lib.ListN.{length, take, drop, getD};

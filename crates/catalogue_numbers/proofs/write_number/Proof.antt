@@ -1,4 +1,4 @@
--- `catalogue_fields::numbers::write_number` meets its contract. The invariant: the bytes that are left, over what stands now, are the whole number
+-- `catalogue_numbers::write_number` meets its contract. The invariant: the bytes that are left, over what stands now, are the whole number
 -- over what stood at entry. The measure is how many are left. Assumes nothing.
 use mathlib.Core.Path.{_≡_, refl, sym, _∙_}
 use Prim.Native.Nat.{_≤_}
@@ -6,9 +6,9 @@ use native.Mathlib.Omega.{arith}
 use lib.ListN.{length, length-set}
 use Rattle.definitions.specs.Number.{over}
 use Rattle.definitions.specs.Writing.{bytesOf}
-use Rattle.catalogue_fields.proofs.NumberLaws as laws
-use Rattle.catalogue_fields.proofs.numbers.write_number.Statement.{statement}
-use Rattle.catalogue_fields.proofs.numbers.write_number.Tie as tie
+use Rattle.catalogue_numbers.proofs.NumberLaws as laws
+use Rattle.catalogue_numbers.proofs.write_number.Statement.{statement}
+use Rattle.catalogue_numbers.proofs.write_number.Tie as tie
 
 abbrev Left : tie.InvT-loop
 Left file₀ at width n left₀ rest₀ file left rest =

@@ -1,13 +1,13 @@
--- `catalogue_fields::numbers::write_bytes` meets its contract. The invariant: the numbers from k on, over what stands now, are all of them over what
+-- `catalogue_numbers::write_bytes` meets its contract. The invariant: the numbers from k on, over what stands now, are all of them over what
 -- stood at entry. The measure is how many are left. Assumes nothing.
 use mathlib.Core.Path.{_≡_, refl, _∙_}
 use Prim.Native.Nat.{_+_, _-_, _≤_}
 use native.Mathlib.Omega.{arith}
 use lib.ListN.{length, take, drop, length-set}
 use Rattle.definitions.specs.Number.{over}
-use Rattle.catalogue_fields.proofs.NumberLaws as laws
-use Rattle.catalogue_fields.proofs.numbers.write_bytes.Statement.{statement}
-use Rattle.catalogue_fields.proofs.numbers.write_bytes.Tie as tie
+use Rattle.catalogue_numbers.proofs.NumberLaws as laws
+use Rattle.catalogue_numbers.proofs.write_bytes.Statement.{statement}
+use Rattle.catalogue_numbers.proofs.write_bytes.Tie as tie
 
 abbrev Left : tie.InvT-loop
 Left file₀ at numbers from n k₀ file k =
