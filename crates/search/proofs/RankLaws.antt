@@ -22,7 +22,7 @@ use Rattle.page_laws.specs.Rows.{rowsOf, row-at, length-rows, slot-rows-up}
 use Rattle.page_laws.specs.Slot.{slot}
 use Rattle.page_laws.specs.Search.{Search, Good, start-good}
 use Rattle.ranking_laws.specs.Met.{row-length}
-use Rattle.insertion.specs.Ranks.{ranksOf}
+use Rattle.row_order.specs.Ranks.{ranksOf}
 use Rattle.search.specs.Frame.{LawfulList, widthOf, cutIf, cutFrom, Searching}
 use Rattle.search.specs.Standing.{begun, Begun, rowIn, Weighed}
 use Rattle.search.specs.declared.frame.Frame.{Frame}

@@ -13,7 +13,7 @@ use Rattle.definitions.specs.Generator.{step}
 use Rattle.definitions.specs.Net.{tValue}
 use Rattle.definitions.specs.Ranking.{leastTop, longestRow, ranksFrom, rowWidth, rowKey, tValues, row}
 use Rattle.ranking_laws.specs.Met.{row-def, row-length}
-use Rattle.insertion.specs.Ranks.{ranksOf}
+use Rattle.row_order.specs.Ranks.{ranksOf}
 use Rattle.search.specs.Standing.{begun, Begun}
 
 -- ---- any row

@@ -18,11 +18,14 @@ use crate::frame::Tally;
 use crate::frame::width_of;
 use crate::rank;
 use crate::rank::Standing;
-use insertion::rows;
+use insertion::rows::insert_row;
 use limits::LONGEST_ROW;
 use orders::primitive::has_full_order;
 use orders::primitive::is_primitive;
 use orders::step::find_step;
+use row_order::compare::STEP;
+use row_order::compare::stands_before;
+use row_order::slot::find_slot;
 
 // Whether a row stands above the cut.
 fn is_above(row: &[u32], f: Frame, last: &[u32]) -> bool
@@ -33,7 +36,7 @@ fn is_above(row: &[u32], f: Frame, last: &[u32]) -> bool
         return true;
     }
     let width = width_of(f.list);
-    rows::stands_before(last, 0, row, 0, width)
+    stands_before(last, 0, row, 0, width)
 }
 
 // Puts the row of a pair in its slot, where it fits, and answers how many rows are kept. The step is looked for only then.
@@ -48,10 +51,10 @@ fn keep_row(p: u32, q: u32, out: &mut [u32], n: usize, f: Frame, row: &mut [u32]
     let list = f.list;
     let width = width_of(list);
     let capacity = f.capacity;
-    let at = rows::find_slot(out, n, width, row);
+    let at = find_slot(out, n, width, row);
     if at < capacity {
-        row[rows::STEP] = find_step(list.degree, p, q);
-        return rows::insert_row(out, n, width, capacity, at, row);
+        row[STEP] = find_step(list.degree, p, q);
+        return insert_row(out, n, width, capacity, at, row);
     }
     n
 }

@@ -8,20 +8,20 @@ ghost use Rattle.definitions.specs.Generator.{accepted};
 ghost use Rattle.definitions.specs.Pages.{before};
 ghost use Rattle.definitions.specs.Ranking.{ranksFrom, longestRow};
 ghost use Rattle.fraction_laws.specs.WellFormed.{WellFormed};
-ghost use Rattle.insertion.specs.Ranks.{ranksOf};
+ghost use Rattle.row_order.specs.Ranks.{ranksOf};
 ghost use Rattle.search.specs.Frame.{LawfulList, widthOf, stateOf, Searching};
 ghost use Rattle.search.specs.Standing.{Begun, Weighed};
 use crate::frame::Frame;
 use crate::frame::Tally;
 use crate::frame::width_of;
 use definitions::Selection;
-use insertion::rows::RANKS_FROM;
-use insertion::rows::STEP;
-use insertion::rows::ranks_before;
 use limits::LONGEST_ROW;
 use net::bound::INVERTIBLE;
 use net::values::next_t;
 use net::values::powers;
+use row_order::compare::RANKS_FROM;
+use row_order::compare::STEP;
+use row_order::compare::ranks_before;
 
 // Where a key stands: not above the cut; above it and behind every row kept, with no room left; or neither is known.
 pub enum Standing {

@@ -1,14 +1,14 @@
--- `rows::find_slot` finds the slot by halves. The invariant: it stands between low and high. The measure is the gap. Assumes nothing.
+-- `slot::find_slot` finds the slot by halves. The invariant: it stands between low and high. The measure is the gap. Assumes nothing.
 use Prim.Native.Nat.{_-_, _≤_}
 use native.Mathlib.Omega.{arith}
 use lib.ListN.{take}
 use Rattle.definitions.specs.Ranking.{rowKey}
 use Rattle.page_laws.specs.Slot.{slot}
 use Rattle.page_laws.specs.Rows.{rowsOf, slot-rows, slot-rows-down, slot-rows-up}
-use Rattle.insertion.proofs.RowLaws as laws
+use Rattle.row_order.proofs.RowLaws as laws
 use borrow.Author.Needs.{needs}
-use Rattle.insertion.proofs.rows.find_slot.Statement.{statement}
-use Rattle.insertion.proofs.rows.find_slot.Tie as tie
+use Rattle.row_order.proofs.slot.find_slot.Statement.{statement}
+use Rattle.row_order.proofs.slot.find_slot.Tie as tie
 
 abbrev Inv-loop : tie.InvT-loop
 Inv-loop out kept width row low₀ high₀ low high =

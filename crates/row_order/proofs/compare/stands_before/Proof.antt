@@ -1,9 +1,9 @@
--- `rows::stands_before` compares two rows: the t-values of one stand before those of the other, or neither do and the pairs decide.
+-- `compare::stands_before` compares two rows: the t-values of one stand before those of the other, or neither do and the pairs decide.
 -- Assumes nothing.
-use Rattle.insertion.proofs.RowLaws as laws
+use Rattle.row_order.proofs.RowLaws as laws
 use borrow.Author.Needs.{needs}
-use Rattle.insertion.proofs.rows.stands_before.Statement.{statement}
-use Rattle.insertion.proofs.rows.stands_before.Tie as tie
+use Rattle.row_order.proofs.compare.stands_before.Statement.{statement}
+use Rattle.row_order.proofs.compare.stands_before.Tie as tie
 
 -- What is known at entry, at each of the three returns.
 abbrev entry : tie.Then1 → tie.Start

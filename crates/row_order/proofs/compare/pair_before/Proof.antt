@@ -1,8 +1,8 @@
--- `rows::pair_before` compares p, and q where p is the same. Assumes nothing.
-use Rattle.insertion.proofs.RowLaws as laws
+-- `compare::pair_before` compares p, and q where p is the same. Assumes nothing.
+use Rattle.row_order.proofs.RowLaws as laws
 use borrow.Author.Needs.{needs}
-use Rattle.insertion.proofs.rows.pair_before.Statement.{statement}
-use Rattle.insertion.proofs.rows.pair_before.Tie as tie
+use Rattle.row_order.proofs.compare.pair_before.Statement.{statement}
+use Rattle.row_order.proofs.compare.pair_before.Tie as tie
 
 -- What is known at entry, where p differs and where it is the same.
 abbrev entry-apart : tie.Then1 → tie.Start

@@ -1,12 +1,12 @@
--- `rows::ranks_before` compares t-values. The invariant: they compare as what is left of them from place k on. The measure is how much is left.
+-- `compare::ranks_before` compares t-values. The invariant: they compare as what is left of them from place k on. The measure is how much is left.
 -- Assumes nothing.
 use Prim.Native.Nat.{_-_, _≤_}
 use native.Mathlib.Omega.{arith}
 use Rattle.definitions.specs.Ranking.{ranksFrom}
-use Rattle.insertion.proofs.RowLaws as laws
+use Rattle.row_order.proofs.RowLaws as laws
 use borrow.Author.Needs.{needs}
-use Rattle.insertion.proofs.rows.ranks_before.Statement.{statement}
-use Rattle.insertion.proofs.rows.ranks_before.Tie as tie
+use Rattle.row_order.proofs.compare.ranks_before.Statement.{statement}
+use Rattle.row_order.proofs.compare.ranks_before.Tie as tie
 
 abbrev Inv-loop : tie.InvT-loop
 Inv-loop a i b j s k₀ k = (ranksFrom ≤ k) × (k ≤ s) × laws.Left s i a j b k
