@@ -2,7 +2,7 @@
 ghost use mathlib.Core.Path.{_≡_};
 ghost use Prim.Native.Nat.{_+_, _<_, _≤_};
 ghost use lib.ListN.{length, take, drop};
-ghost use Rattle.definitions.specs.Pages.{before};
+ghost use Rattle.definitions.specs.Pages.{before, after, above};
 ghost use Rattle.definitions.specs.Ranking.{ranksFrom, rowKey};
 ghost use Rattle.row_order.specs.Ranks.{ranksOf};
 
@@ -55,4 +55,12 @@ pub fn stands_before(a: &[u32], i: usize, b: &[u32], j: usize, width: usize) -> 
         return false;
     }
     pair_before(a, i, b, j)
+}
+
+// Whether the row at the front of `row` stands after the row at the front of `last`, so that a page after that row may hold it.
+pub fn stands_after(row: &[u32], last: &[u32], width: usize) -> bool
+    requires { ⌜ (ranksFrom < width) × (width ≤ length (now last)) × (width ≤ length (now row)) ⌝ }
+    ensures { λ r. ⌜ r ≡ above (after (rowKey (take width (now (last .entry))))) (rowKey (take width (now (row .entry)))) ⌝ }
+{
+    stands_before(last, 0, row, 0, width)
 }

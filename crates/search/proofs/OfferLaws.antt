@@ -8,11 +8,11 @@ use native.Mathlib.Nat.{mul-le-mul-right, le-trans}
 use native.Mathlib.Omega.{arith}
 use lib.ListN.{length, take, set}
 use Rattle.definitions.specs.Generator.{Pair, primitive, linearQuotients, coprimeStep, accepted, step}
-use Rattle.definitions.specs.Pages.{before, above}
+use Rattle.definitions.specs.Pages.{after, above}
 use Rattle.definitions.specs.Ranking.{rowKey}
 use Rattle.number_laws.specs.Truth.{truth-false, not-both}
 use Rattle.order_laws.specs.Accepted.{accepted-is}
-use Rattle.page_laws.specs.Ascending.{above-start, above-after}
+use Rattle.page_laws.specs.Ascending.{above-start}
 use Rattle.page_laws.specs.Slot.{slot, slot-by-key}
 use Rattle.page_laws.specs.Rows.{rowsOf, slot-rows, Kept, inserted, inserted-none}
 use Rattle.page_laws.specs.Search.{Search, counted, offered-kept, offered-left, offer-one, offer-none}
@@ -33,8 +33,8 @@ module _ (f : Frame) (last k : List ℕ) where
   pub above-open : f .after ≡ false → true ≡ above (cutFrom f last) k
   above-open e = sym (ap (λ (b : Bool). above (cutIf b (rowKey (take (widthOf f) last))) k) e ∙ above-start k)
 
-  pub above-last : {r : Bool} → f .after ≡ true → r ≡ before (rowKey (take (widthOf f) last)) k → r ≡ above (cutFrom f last) k
-  above-last e t = t ∙ sym (ap (λ (b : Bool). above (cutIf b (rowKey (take (widthOf f) last))) k) e ∙ above-after (rowKey (take (widthOf f) last)) k)
+  pub above-last : {r : Bool} → f .after ≡ true → r ≡ above (after (rowKey (take (widthOf f) last))) k → r ≡ above (cutFrom f last) k
+  above-last e t = t ∙ sym (ap (λ (b : Bool). above (cutIf b (rowKey (take (widthOf f) last))) k) e)
 
 -- ---- rows kept
 

@@ -24,7 +24,7 @@ use orders::primitive::has_full_order;
 use orders::primitive::is_primitive;
 use orders::step::find_step;
 use row_order::compare::STEP;
-use row_order::compare::stands_before;
+use row_order::compare::stands_after;
 use row_order::slot::find_slot;
 
 // Whether a row stands above the cut.
@@ -36,7 +36,7 @@ fn is_above(row: &[u32], f: Frame, last: &[u32]) -> bool
         return true;
     }
     let width = width_of(f.list);
-    stands_before(last, 0, row, 0, width)
+    stands_after(row, last, width)
 }
 
 // Puts the row of a pair in its slot, where it fits, and answers how many rows are kept. The step is looked for only then.

@@ -24,17 +24,20 @@ fn beside(body: &[u8], degree: u32, top: u32, place: usize) {
     shown(catalogue_rows::row_at(body, degree, top, place));
 }
 
+// The numbers of a body.
+fn found(body: &[u8], degree: u32, top: u32, rows: u32) {
+    field(b'T', top as u64, b' ');
+    field(b'r', rows as u64, b'\n');
+    beside(body, degree, top, 1);
+    beside(body, degree, top, body.len());
+}
+
 pub(crate) fn looked_up(file: &[u8], degree: u32) {
     let body = catalogue::body(file, degree);
     field(b'd', degree as u64, b' ');
     field(b'l', body.len() as u64, b' ');
     match catalogue::lookup(file, degree) {
-        Lookup::Body(top, rows) => {
-            field(b'T', top as u64, b' ');
-            field(b'r', rows as u64, b'\n');
-            beside(body, degree, top, 1);
-            beside(body, degree, top, body.len());
-        }
+        Lookup::Body(top, rows) => found(body, degree, top, rows),
         Lookup::NoBody(refusal) => refused(refusal),
     }
 }

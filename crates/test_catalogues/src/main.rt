@@ -1,5 +1,5 @@
-// Catalogues whole and damaged: each line of the input is a degree and a file in hexadecimal. Printed are what opening and looking up answer, and what
-// a reader of the degree hands out, to its end:
+// Catalogues whole and damaged: each two lines of the input are a degree and a file in hexadecimal. Printed are what opening and looking up answer,
+// and what a reader of the degree hands out, to its end:
 //     f LENGTH n ENTRIES                        the file's length, and how many degrees it has
 //     d DEGREE l LENGTH T TOP r ROWS            the degree, the length of its body, T and the row count
 //     @ PLACE > BEHIND .                        no row stands at this place of the body, and the place stays
@@ -7,13 +7,15 @@
 //     + p q σ t(3) .. t(8)                      a row
 //     .                                         the end
 // In place of what is refused stands ! and the number.
-mod input; // the lines of the input
 mod lookup; // opening, and looking a degree up
 mod print; // what is printed with
 mod walk; // a reader, from its first row to its end
 
-ghost use Prim.Native.Nat.{_<_};
-ghost use lib.ListN.{length};
+// As many degrees and files as the input has.
+const CATALOGUES: u32 = 103;
+
+// More bytes than the longest line.
+const LINE_ROOM: usize = 320;
 
 fn answers(file: &[u8], degree: u32) {
     lookup::opened(file);
@@ -21,27 +23,31 @@ fn answers(file: &[u8], degree: u32) {
     walk::rows(file, degree);
 }
 
-// The line at a place, and the place of the next one.
-fn line(bytes: &[u8], at: usize) -> usize
-    requires { ⌜ at < length (now bytes) ⌝ }
-    ensures { λ r. ⌜ at < r ⌝ }
-{
-    let mut file = io::buffer();
-    let degree = input::decimal(bytes, at);
-    let n = input::decode(bytes, degree.behind, &mut file);
-    answers(&file[..n], degree.value);
-    input::behind_line(bytes, at)
+// The value of a hexadecimal digit.
+fn digit(byte: u8) -> u8 {
+    byte % 16 + byte / 64 * 9
 }
 
-fn lines(bytes: &[u8]) {
-    let mut at = 0;
-    while at < bytes.len() {
-        at = line(bytes, at);
+// The bytes that the digits of a line are, in place: each byte takes its two digits one after the other, and what it was before is shifted out.
+fn decode(line: &mut [u8]) {
+    for k in 0..line.len() {
+        line[k / 2] = line[k / 2] << 4 | digit(line[k]);
     }
 }
 
+// The next two lines of standard input.
+fn answer_lines() {
+    let mut line = [b'\n'; LINE_ROOM];
+    streams::read_line(&mut line);
+    let mut degree = [0u32; 1];
+    line::read_numbers(&line, &mut degree);
+    let n = streams::read_line(&mut line);
+    decode(&mut line);
+    answers(&line[..n / 2], degree[0]);
+}
+
 fn main() {
-    let mut bytes = io::large_buffer();
-    let n = io::read_full(libc::STDIN_FILENO, &mut bytes);
-    lines(&bytes[..n]);
+    for _ in 0..CATALOGUES {
+        answer_lines();
+    }
 }

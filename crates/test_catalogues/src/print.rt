@@ -42,6 +42,12 @@ fn row(r: Row) {
     further(r.t6);
     further(r.t7);
     further(r.t8);
+    byte(b'\n');
+}
+
+fn end() {
+    byte(b'.');
+    byte(b'\n');
 }
 
 // What a reader hands out, and whether it was a row.
@@ -51,12 +57,10 @@ pub(crate) fn shown(next: NextRow) -> bool
     match next {
         NextRow::Found(r) => {
             row(r);
-            byte(b'\n');
             true
         }
         NextRow::End => {
-            byte(b'.');
-            byte(b'\n');
+            end();
             false
         }
     }

@@ -1,59 +1,172 @@
-// Every unstarred example of document 01 but the catalogue's, each with its answer.
-use definitions::Judgement;
-use definitions::Uniformity;
+// Every unstarred example of document 01 but the catalogue's, each with its answer. An example is two lines of the input: the text before the answer,
+// and numbers. These are the kind of call, the length of the slice that is lent, whose numbers are all 9, and the arguments; a number that the line
+// leaves out is 4294967295, which has more digits than a line can hold:
+//     1 0 m p q               generator::judge
+//     2 0 m p q s             net::t_value
+//     3 LENGTH                ranking::page of degree 3 up to dimension 4 from the start, and what the slice holds afterwards
+//     4 LENGTH p q            the same after (p, q)
+//     5 LENGTH m p q first    points::points, and what the slice holds afterwards
+//     6 LENGTH m p q first    points::points, and the words that were written go into the hash
+//     7 0                     the hash
+use definitions::Position;
+use definitions::Selection;
+use libc::STDOUT_FILENO;
+use results::FenyurkaPage;
 
-mod output; // words of the full period
-mod pages; // pages of a short list
-mod print; // what is printed with
+// The kinds of calls.
+const JUDGE: u32 = 1;
 
-use print::number;
-use print::text;
+const T_VALUE: u32 = 2;
 
-fn judged(m: u32, p: u32, q: u32) {
-    print::pair(b"judge ", m, p, q);
-    match generator::judge(m, p, q) {
-        Judgement::Accepted(step) => {
-            text(b" step ");
-            number(step);
-        }
-        Judgement::Rejected(refusal) => print::refused(refusal),
+const FIRST_PAGE: u32 = 3;
+
+const PAGE_AFTER: u32 = 4;
+
+const WORDS: u32 = 5;
+
+const HASHED_WORDS: u32 = 6;
+
+// As many examples as the input has.
+const EXAMPLES: u32 = 43;
+
+const LINE_ROOM: usize = 80;
+
+// The longest slice: a full period comes in pieces.
+const PIECE: usize = 4096;
+
+const NOT_GIVEN: u32 = 4294967295;
+
+fn print(word: &[u8], number: u64) {
+    io::write_all(STDOUT_FILENO, word);
+    io::print_decimal(STDOUT_FILENO, number);
+}
+
+// The value behind its word, or the refusal.
+fn print_answer(word: &[u8], refusal: u32, value: usize) {
+    if refusal > 0 {
+        print(b" refused ", refusal as u64);
+    } else {
+        print(word, value as u64);
     }
-    text(b"\n");
 }
 
-fn measured(m: u32, p: u32, q: u32, s: u32) {
-    print::pair(b"t-value ", m, p, q);
-    text(b" dimension ");
-    number(s);
-    match net::t_value(m, p, q, s) {
-        Uniformity::Value(t) => {
-            text(b" is ");
-            number(t);
-        }
-        Uniformity::Undefined(refusal) => print::refused(refusal),
+fn new_line() {
+    io::write_all(STDOUT_FILENO, b"\n");
+}
+
+// A number of the slice is printed, or goes into the hash, which tells the order too: modulo 2^32 it is taken 31 times, and the word is added.
+fn show(kind: u32, number: u32, hash: u64) -> u64 {
+    if kind == HASHED_WORDS {
+        return hash % 4294967296 * 31 + number as u64;
     }
-    text(b"\n");
+    if kind == WORDS {
+        new_line();
+        io::print_hex(STDOUT_FILENO, number as u64, 8);
+    } else {
+        print(b" ", number as u64);
+    }
+    hash
 }
 
-fn judgings() {
-    judged(2, 7, 3);
-    judged(4, 31, 1);
-    judged(3, 16, 1);
+// The first n numbers of the slice, and the hash afterwards.
+fn show_first(kind: u32, slice: &[u32; PIECE], n: usize, before: u64) -> u64 {
+    let mut hash = before;
+    let mut i = 0;
+    while i < n {
+        if i >= PIECE {
+            return hash;
+        }
+        hash = show(kind, slice[i], hash);
+        i += 1;
+    }
+    hash
 }
 
-fn t_values() {
-    measured(2, 7, 2, 1);
-    measured(2, 7, 2, 2);
-    measured(2, 7, 2, 3);
-    measured(3, 11, 4, 1);
-    measured(3, 11, 4, 2);
-    measured(3, 11, 4, 4);
-    measured(3, 11, 1, 2);
+fn judge(asked: &[u32; 6]) {
+    let answer = results::judgement(generator::judge(asked[2], asked[3], asked[4]));
+    print_answer(b" step ", answer.refusal, answer.step as usize);
+}
+
+fn t_value(asked: &[u32; 6]) {
+    let answer = results::t_value(net::t_value(asked[2], asked[3], asked[4], asked[5]));
+    print_answer(b" is ", answer.refusal, answer.t as usize);
+}
+
+fn print_page(answer: FenyurkaPage) {
+    print_answer(b" rows ", answer.refusal, answer.count);
+    if answer.refusal > 0 {
+        io::write_all(STDOUT_FILENO, b":");
+    } else if answer.more > 0 {
+        io::write_all(STDOUT_FILENO, b" more:");
+    } else {
+        io::write_all(STDOUT_FILENO, b" end:");
+    }
+}
+
+fn page(position: Position, slice: &mut [u32]) {
+    let list = Selection { degree: 3, top: 4 };
+    print_page(results::page(ranking::page(ranking::request(list, position), slice)));
+}
+
+// The answer, and how many words were written.
+fn points(asked: &[u32; 6], slice: &mut [u32]) -> usize {
+    let answer = results::points(points::points(asked[2], asked[3], asked[4], asked[5], slice));
+    print_answer(b" count ", answer.refusal, answer.count);
+    answer.count
+}
+
+// The answer, and how many numbers of the slice are shown behind it.
+fn call(asked: &[u32; 6], slice: &mut [u32], hash: u64) -> usize {
+    match asked[0] {
+        JUDGE => judge(asked),
+        T_VALUE => t_value(asked),
+        FIRST_PAGE => page(Position::Start, slice),
+        PAGE_AFTER => page(Position::After(asked[2], asked[3]), slice),
+        WORDS => {
+            points(asked, slice);
+        }
+        HASHED_WORDS => return points(asked, slice),
+        _ => print(b" ", hash % 4294967296),
+    }
+    slice.len()
+}
+
+fn length_of(number: u32) -> usize {
+    number as usize
+}
+
+// The call with a slice of the length that is asked for, what is shown of it, and the hash afterwards.
+fn ask(asked: &[u32; 6], hash: u64) -> u64 {
+    let mut slice = [9u32; PIECE];
+    let length = length_of(asked[1]);
+    if length > PIECE {
+        return hash;
+    }
+    let shown = call(asked, &mut slice[..length], hash);
+    show_first(asked[0], &slice, shown, hash)
+}
+
+fn echo_line() {
+    let mut input = [b'\n'; LINE_ROOM];
+    let n = streams::read_line(&mut input);
+    streams::write_front(STDOUT_FILENO, &input, n);
+}
+
+// The next example of standard input, and the hash afterwards.
+fn example(hash: u64) -> u64 {
+    echo_line();
+    let mut input = [b'\n'; LINE_ROOM];
+    streams::read_line(&mut input);
+    let mut asked = [NOT_GIVEN; 6];
+    line::read_numbers(&input, &mut asked);
+    let next = ask(&asked, hash);
+    new_line();
+    next
 }
 
 fn main() {
-    judgings();
-    t_values();
-    pages::all();
-    output::all();
+    let mut hash = 0;
+    for _ in 0..EXAMPLES {
+        hash = example(hash);
+    }
 }

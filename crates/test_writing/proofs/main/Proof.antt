@@ -15,6 +15,3 @@ pub main-spec : {M : Type 1} → statement M
 main-spec =
     tie.close (tie.spec Inv-loop μ-loop (search needs) (search needs) (λ c. omega arith) (λ c. omega arith) (λ c. omega arith) (search needs)
     (search needs) (search needs) (search needs) (search needs) (search needs) (search needs) (search needs) (search needs))
-
--- x
--- y

@@ -20,6 +20,3 @@ pub print-buffer-spec : {M : Type 1} → statement M
 print-buffer-spec =
     tie.close (tie.spec Inv-loop μ-loop (λ c. omega arith) (λ c. omega arith) (search needs) (search needs) (λ c. omega arith) (λ c. omega arith) (λ c. omega arith)
     (λ c. omega arith) loop-again (search needs) (search needs) (search needs) (search needs))
-
--- x
--- y

@@ -27,6 +27,3 @@ pub write-line-spec : {M : Type 1} → statement M
 write-line-spec =
     tie.close (tie.spec (search needs) (search needs) (search needs) (search needs) (search needs) (search needs) (search needs)
     (search needs) array-share-prefix-numbers slice-aggregate-write-within write-within-requires (search needs) (search needs))
-
--- x
--- y

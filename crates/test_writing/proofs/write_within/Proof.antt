@@ -16,6 +16,3 @@ pub write-within-spec : {M : Type 1} → statement M
 write-within-spec =
     tie.close (tie.spec (search needs) cast-room (search needs) (search needs) (search needs) (search needs) slice-aggregate-write (search needs)
     (search needs) (search needs))
-
--- x
--- y
