@@ -11,12 +11,12 @@ use lib.ListN.{length, take, length-append}
 use denote.Ref.{now}
 use Rattle.definitions.specs.Listing.{readLine, lineValues, listing}
 use Rattle.listing_rows.specs.Room.{stepRoom}
-use Rattle.listing_parts.specs.Left.{textLeft, Underway, rowRoom}
-use Rattle.listing_parts.specs.Decision.{start-text, start-underway}
+use Rattle.listing_start.specs.Left.{textLeft, Underway, rowRoom}
+use Rattle.listing_start.specs.Decision.{start-text, start-underway}
+use Rattle.listing_start.specs.declared.Printing.{Printing}
 use Rattle.listing_parts.specs.Parts.{goesOn, partText, behindPart, rowsThatFit, part-left, part-underway, part-some, nothing-left, rowsThatFit-some, put-part}
-use Rattle.listing_parts.specs.declared.Printing.{Printing}
 use Rattle.listing.proofs.read_line.Reads as read-line
-use Rattle.listing_parts.proofs.start.Reads as start
+use Rattle.listing_start.proofs.start.Reads as start
 use Rattle.listing_parts.proofs.parts.next.Reads as next
 use Rattle.demands.specs.Arguments.{third}
 

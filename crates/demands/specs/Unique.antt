@@ -26,7 +26,7 @@ use Rattle.listing.proofs.put_page.Reads as put-page
 use Rattle.listing.proofs.put_total.Reads as put-total
 use Rattle.listing.proofs.put_refused.Reads as put-refused
 use Rattle.catalogue_line.proofs.answer.Reads as answer
-use Rattle.listing_parts.proofs.start.Reads as start
+use Rattle.listing_start.proofs.start.Reads as start
 use Rattle.listing_parts.proofs.parts.next.Reads as next-part
 use Rattle.catalogue_reader.proofs.reader as reader
 use Rattle.catalogue_reader.proofs.next as next

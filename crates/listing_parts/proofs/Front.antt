@@ -5,8 +5,8 @@ use Prim.Native.Nat.{ℕ}
 use lib.ListN.{length}
 use Rattle.definitions.specs.Number.{over}
 use Rattle.slice_laws.specs.Over.{over-nothing}
+use Rattle.listing_start.specs.declared.Printing.{Printing}
 use Rattle.listing_parts.specs.Parts.{partRows, partText, behindPart, goesOn, nextPart, rowsThatFit, partAt, rowsAfter, textAfter}
-use Rattle.listing_parts.specs.declared.Printing.{Printing}
 use Rattle.listing_parts.specs.declared.parts.Part.{Part}
 
 pub part-is : (k : ℕ) (at : Printing) {bytes : ℕ} {next : Printing} → bytes ≡ length (partText k at) → next ≡ behindPart k at

@@ -17,10 +17,10 @@ use Rattle.cursor.specs.declared.reading.Cursor.{Cursor}
 use Rattle.cursor.specs.declared.reading.Portion.{Portion}
 use Rattle.listing_rows.specs.Printed.{some, rowsText}
 use Rattle.listing_rows.specs.Room.{stepRoom, empty-page}
-use Rattle.listing_parts.specs.Left.{OnWay}
+use Rattle.listing_start.specs.Left.{OnWay}
+use Rattle.listing_start.specs.declared.Printing.{Printing}
+use Rattle.listing_start.specs.declared.Printing.the-variants.{Rows, Total}
 use Rattle.listing_parts.specs.Parts.{rowsPart, partRows, partText, behindRows, behindPart, nextPart}
-use Rattle.listing_parts.specs.declared.Printing.{Printing}
-use Rattle.listing_parts.specs.declared.Printing.the-variants.{Rows, Total}
 use Rattle.listing_parts.specs.declared.parts.Part.{Part}
 use Rattle.listing_parts.proofs.Front.{part-is}
 use Rattle.listing_rows.specs.Taken.{HandedWithin, within-back}

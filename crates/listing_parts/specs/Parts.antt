@@ -22,9 +22,9 @@ use Rattle.cursor.specs.Turns.{left-start, start-reads}
 use Rattle.cursor.specs.declared.reading.Cursor.{Cursor}
 use Rattle.listing_rows.specs.Printed.{some, printed, printedFrom, rowsText, list-is-printed, parts-are-printed}
 use Rattle.listing_rows.specs.Room.{stepRoom, row-some-text, empty-page, refused-some, header-some, total-some}
-use Rattle.listing_parts.specs.Left.{textLeft, Underway, rowRoom}
-use Rattle.listing_parts.specs.declared.Printing.{Printing}
-use Rattle.listing_parts.specs.declared.Printing.the-variants.{Refused, Whole, Rows, Total, Nothing}
+use Rattle.listing_start.specs.Left.{textLeft, Underway, rowRoom}
+use Rattle.listing_start.specs.declared.Printing.{Printing}
+use Rattle.listing_start.specs.declared.Printing.the-variants.{Refused, Whole, Rows, Total, Nothing}
 use Rattle.listing_parts.specs.declared.parts.Part.{Part}
 
 -- The text of the first k rows of those that are left; where none is left, the line of an empty page.

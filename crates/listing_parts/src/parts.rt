@@ -3,11 +3,11 @@ ghost use mathlib.Core.Path.{_≡_};
 ghost use Prim.Native.Nat.{_≤_};
 ghost use lib.ListN.{length};
 ghost use Rattle.listing_rows.specs.Room.{stepRoom};
-ghost use Rattle.listing_parts.specs.Left.{Underway, rowRoom};
+ghost use Rattle.listing_start.specs.Left.{Underway, rowRoom};
 ghost use Rattle.listing_parts.specs.Parts.{partAt, rowsAfter, textAfter};
-use crate::Printing;
 use crate::rows::next_rows;
 use cursor::reading;
+use listing_start::Printing;
 
 // A part that was put: its bytes, whether more is left, and what.
 pub struct Part {

@@ -1,14 +1,14 @@
 // One line is read, and its list printed, or why there is none: the parts of its text, one after the other. What they are is proved of
-// `listing_parts`; that they are written no contract can say.
+// `listing_start` and `listing_parts`; that they are written no contract can say.
 ghost use Prim.Native.Nat.{_≤_};
 ghost use lib.ListN.{length};
 ghost use Rattle.definitions.specs.Ranking.{longestRow};
 ghost use Rattle.listing_rows.specs.Room.{stepRoom};
-ghost use Rattle.listing_parts.specs.Left.{Underway};
+ghost use Rattle.listing_start.specs.Left.{Underway};
 ghost use Rattle.listing_program.specs.Rooms.{numbersAtHand, bytesAtHand};
 use libc::STDOUT_FILENO;
-use listing_parts::Printing;
 use listing_parts::parts;
+use listing_start::Printing;
 
 // More bytes than a line that can be read.
 const LINE_ROOM: usize = 64;
@@ -42,7 +42,7 @@ fn print_within(input: &[u8], rows: &mut [u32], text: &mut [u8], numbers: usize,
     requires { ⌜ (longestRow ≤ numbers) × (numbers ≤ length (now rows)) ⌝ }
     requires { ⌜ (stepRoom ≤ bytes) × (bytes ≤ length (now text)) ⌝ }
 {
-    let first = listing_parts::start(input);
+    let first = listing_start::start(input);
     print_parts(first, &mut rows[..numbers], &mut text[..bytes]);
 }
 

@@ -10,9 +10,9 @@ use borrow.Author.Needs.{needs}
 use Rattle.definitions.specs.Ranking.{rowWidth, longestRow}
 use Rattle.listing_rows.specs.Room.{stepRoom}
 use Rattle.listing_rows.specs.Taken.{HandedWithin}
+use Rattle.listing_start.specs.declared.Printing.{Printing}
+use Rattle.listing_start.specs.declared.Printing.the-variants.{Rows}
 use Rattle.listing_parts.specs.Parts.{rowsThatFit, rowsThatFit-some}
-use Rattle.listing_parts.specs.declared.Printing.{Printing}
-use Rattle.listing_parts.specs.declared.Printing.the-variants.{Rows}
 use Rattle.listing_parts.proofs.NextRows.{fits-numbers, fits-bytes, few-handed, next-none, next-more, next-end}
 use Rattle.listing_parts.proofs.rows.next_rows.Statement.{statement}
 use Rattle.listing_parts.proofs.rows.next_rows.Tie as tie

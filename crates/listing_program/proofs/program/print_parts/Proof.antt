@@ -7,7 +7,7 @@ use native.Mathlib.Omega.{arith}
 use lib.ListN.{length}
 use borrow.Author.Needs.{needs}
 use Rattle.listing_rows.specs.Room.{stepRoom}
-use Rattle.listing_parts.specs.Left.{Underway, rowRoom}
+use Rattle.listing_start.specs.Left.{Underway, rowRoom}
 use Rattle.listing_parts.specs.Parts.{rowsThatFit, toGo, part-underway, part-falls, rowsThatFit-some, row-room-most, put-part}
 use Rattle.listing_program.proofs.program.print_parts.Statement.{statement}
 use Rattle.listing_program.proofs.program.print_parts.Tie as tie

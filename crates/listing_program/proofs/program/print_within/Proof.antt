@@ -4,8 +4,8 @@ use denote.Ref.{now}
 use lib.Seq.{length-take-le}
 use borrow.Author.Needs.{needs}
 use Rattle.definitions.specs.Listing.{readLine}
-use Rattle.listing_parts.specs.Left.{Underway}
-use Rattle.listing_parts.specs.Decision.{start-underway}
+use Rattle.listing_start.specs.Left.{Underway}
+use Rattle.listing_start.specs.Decision.{start-underway}
 use Rattle.listing_program.proofs.program.print_within.Statement.{statement}
 use Rattle.listing_program.proofs.program.print_within.Tie as tie
 

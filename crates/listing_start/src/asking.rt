@@ -2,7 +2,7 @@
 ghost use mathlib.Core.Path.{_≡_};
 ghost use Rattle.definitions.specs.Answers.{refusalNumber};
 ghost use Rattle.definitions.specs.declared.Line.the-variants.{Asked};
-ghost use Rattle.listing_parts.specs.Decision.{printingOf};
+ghost use Rattle.listing_start.specs.Decision.{printingOf};
 use crate::Printing;
 use definitions::Refusal;
 use definitions::Selection;

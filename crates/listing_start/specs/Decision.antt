@@ -24,9 +24,9 @@ use Rattle.definitions.specs.declared.Selection.{Selection}
 use Rattle.number_laws.specs.Truth.{by-test}
 use Rattle.number_laws.specs.Bounds.{lawfulDegree-is, lawfulTop-is}
 use Rattle.answer_laws.specs.Unless.{Decides, here, later, passes, at-end, unless-refused, unless-given, unless-map}
-use Rattle.listing_parts.specs.Left.{textLeft, Underway}
-use Rattle.listing_parts.specs.declared.Printing.{Printing}
-use Rattle.listing_parts.specs.declared.Printing.the-variants.{Refused, Whole}
+use Rattle.listing_start.specs.Left.{textLeft, Underway}
+use Rattle.listing_start.specs.declared.Printing.{Printing}
+use Rattle.listing_start.specs.declared.Printing.the-variants.{Refused, Whole}
 
 -- The list that is asked for.
 abbrev pub askedList : ℕ → ℕ → Selection

@@ -9,8 +9,8 @@ use Rattle.cursor.specs.Left.{left, OnList}
 use Rattle.cursor.specs.declared.reading.Cursor.{Cursor}
 use Rattle.page_line.specs.Due.{mostRows}
 use Rattle.listing_rows.specs.Printed.{printedFrom}
-use Rattle.listing_parts.specs.declared.Printing.{Printing}
-use Rattle.listing_parts.specs.declared.Printing.the-variants.{Refused, Whole, Rows, Total, Nothing}
+use Rattle.listing_start.specs.declared.Printing.{Printing}
+use Rattle.listing_start.specs.declared.Printing.the-variants.{Refused, Whole, Rows, Total, Nothing}
 
 -- The text that is left.
 abbrev pub textLeft : Printing → List ℕ

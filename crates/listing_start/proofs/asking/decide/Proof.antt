@@ -1,4 +1,4 @@
--- `listing_parts::asking::decide` decides as the definition does. Assumes nothing.
+-- `listing_start::asking::decide` decides as the definition does. Assumes nothing.
 use mathlib.Core.Path.{_≡_, sym, _∙_}
 use mathlib.Core.Bool.{true}
 use native.Mathlib.Omega.{arith}
@@ -6,9 +6,9 @@ use borrow.Author.Needs.{needs}
 use borrow.Author.Tests.{not-true, not-false}
 use Rattle.definitions.specs.Generator.{lawfulDegree}
 use Rattle.definitions.specs.Ranking.{lawfulTop}
-use Rattle.listing_parts.specs.Decision.{size-refused, degree-refused, top-refused, none-refused, all-listed}
-use Rattle.listing_parts.proofs.asking.decide.Statement.{statement}
-use Rattle.listing_parts.proofs.asking.decide.Tie as tie
+use Rattle.listing_start.specs.Decision.{size-refused, degree-refused, top-refused, none-refused, all-listed}
+use Rattle.listing_start.proofs.asking.decide.Statement.{statement}
+use Rattle.listing_start.proofs.asking.decide.Tie as tie
 
 returns : tie.Need-returns
 returns c = let a = c .before .args in sym (size-refused (a .degree) (a .top) (a .size) (c .if1 .taken))

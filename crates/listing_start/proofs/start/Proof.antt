@@ -1,9 +1,9 @@
--- `listing_parts::start` reads the line and decides. Assumes nothing.
+-- `listing_start::start` reads the line and decides. Assumes nothing.
 use mathlib.Core.Path.{sym, ap, _∙_}
 use borrow.Author.Needs.{needs}
-use Rattle.listing_parts.specs.Decision.{printingOf, printing-unreadable}
-use Rattle.listing_parts.proofs.start.Statement.{statement}
-use Rattle.listing_parts.proofs.start.Tie as tie
+use Rattle.listing_start.specs.Decision.{printingOf, printing-unreadable}
+use Rattle.listing_start.proofs.start.Statement.{statement}
+use Rattle.listing_start.proofs.start.Tie as tie
 
 returns : tie.Need-returns
 returns c =
