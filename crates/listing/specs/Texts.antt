@@ -6,7 +6,7 @@ use native.Mathlib.Omega.{arith}
 use lib.ListN.{length}
 use Rattle.definitions.specs.Number.{numbers}
 use Rattle.definitions.specs.Listing.{newline, decimal, headerText, totalText, refusedText, letters}
-use Rattle.text.specs.Decimal.{ten-digits}
+use Rattle.decimal_text.specs.Decimal.{ten-digits}
 use Rattle.text.specs.Lines.{shortLine, longLine, line-length}
 
 pub header-line : (m top : ℕ) → headerText m top ≡ longLine (letters "degree ") m (letters " top ") top (newline ∷ [])

@@ -32,7 +32,7 @@ pub fn put_decimal(out: &mut [u8], at: usize, n: u32) -> usize
     ensures { λ r. ⌜ r ≡ behind at (decimal n) (now (out .entry)) ⌝ }
     ensures { λ _. ⌜ now (out .exit) ≡ placed at (decimal n) (now (out .entry)) ⌝ }
 {
-    text::put_decimal(out, at, n)
+    decimal_text::put_decimal(out, at, n)
 }
 
 // The line above a list.

@@ -11,7 +11,7 @@ use lib.ListN.{length, getD, length-append}
 use Rattle.definitions.specs.Number.{numbers}
 use Rattle.definitions.specs.Ranking.{longestRow}
 use Rattle.definitions.specs.Listing.{decimal, headerText, rowText, pageText, totalText, refusedText, newline, letters}
-use Rattle.text.specs.Decimal.{ten-digits}
+use Rattle.decimal_text.specs.Decimal.{ten-digits}
 use Rattle.text.specs.Lines.{line-length, long-length}
 use Rattle.row_text.specs.Rows.{rowBytes, row-none, row-some}
 use Rattle.page_line.specs.Texts.{page-line}

@@ -6,8 +6,8 @@ ghost use lib.ListN.{length};
 ghost use Rattle.definitions.specs.Number.{over};
 ghost use Rattle.definitions.specs.Listing.{rowText};
 ghost use Rattle.row_text.specs.Rows.{gap};
-use text::write::digits;
-use text::write::write_decimal;
+use decimal_text::write::digits;
+use decimal_text::write::write_decimal;
 
 // Whether a row's text fits into so many bytes.
 pub fn row_fits(row: &[u32], room: usize) -> bool

@@ -1,3 +1,2 @@
--- Decimal digits and lines: what the contracts cite, and the laws that their proofs rest on.
-pub mod Decimal
+-- Lines of words and numbers: what the contracts cite, and the laws that their proofs rest on.
 pub mod Lines

@@ -4,10 +4,10 @@ ghost use Prim.Native.Nat.{_+_, _≤_};
 ghost use lib.ListN.{length};
 ghost use Rattle.text.specs.Lines.{mostLetters, shortLine, longLine};
 ghost use Rattle.slice_laws.specs.Place.{placed, behind};
-use crate::write::digits;
-use crate::write::fits;
 use crate::write::write_field;
 use crate::write::write_long_line;
+use decimal_text::write::digits;
+use decimal_text::write::fits;
 
 // A line of a word and a number.
 pub fn put_line(out: &mut [u8], at: usize, word: &[u8], n: u32) -> usize

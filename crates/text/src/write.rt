@@ -1,50 +1,12 @@
-// Texts over what stands in a buffer. Each writer asks that its text fits, and answers the place behind it.
+// Words and lines over what stands in a buffer. Each writer asks that its text fits, and answers the place behind it.
 ghost use mathlib.Core.Path.{_≡_};
 ghost use mathlib.Core.List.{_++_};
 ghost use Prim.Native.Nat.{_+_, _≤_};
-ghost use lib.Dec.{leb};
 ghost use lib.ListN.{length};
 ghost use Rattle.definitions.specs.Number.{over};
 ghost use Rattle.definitions.specs.Listing.{decimal};
 ghost use Rattle.text.specs.Lines.{longLine};
-
-// Whether n bytes fit behind a place.
-pub fn fits(out: &[u8], at: usize, n: usize) -> bool
-    ensures { λ r. ⌜ r ≡ leb (at + n) (length (now (out .entry))) ⌝ }
-{
-    at <= out.len() && n <= out.len() - at
-}
-
-// How many decimal digits n has.
-pub fn digits(n: u32) -> usize
-    ensures { λ r. ⌜ r ≡ length (decimal n) ⌝ }
-{
-    let mut k = 1;
-    let mut rest = n;
-    while rest >= 10 {
-        rest /= 10;
-        k += 1;
-    }
-    k
-}
-
-// The decimal digits of n, the last one first.
-pub fn write_decimal(out: &mut [u8], at: usize, n: u32) -> usize
-    requires { ⌜ at + length (decimal n) ≤ length (now out) ⌝ }
-    ensures { λ r. ⌜ r ≡ at + length (decimal n) ⌝ }
-    ensures { λ _. ⌜ now (out .exit) ≡ over at (decimal n) (now (out .entry)) ⌝ }
-{
-    let end = at + digits(n);
-    let mut place = end;
-    let mut rest = n;
-    while rest >= 10 {
-        place -= 1;
-        out[place] = b'0' + (rest % 10) as u8;
-        rest /= 10;
-    }
-    out[at] = b'0' + rest as u8;
-    end
-}
+use decimal_text::write::write_decimal;
 
 // A word, byte by byte.
 pub fn write_word(out: &mut [u8], at: usize, word: &[u8]) -> usize

@@ -9,7 +9,7 @@ use lib.ListN.{length, drop, getD}
 use borrow.Author.Needs.{needs}
 use borrow.Author.Tests.{le-leb, lt-leb}
 use Rattle.definitions.specs.Listing.{rowText}
-use Rattle.text.specs.Decimal.{decimal-short}
+use Rattle.decimal_text.specs.Decimal.{decimal-short}
 use Rattle.row_text.specs.Rows.{rowBytes, bytes-turn, bytes-end, row-none, row-some}
 use Rattle.row_text.proofs.write.row_fits.Statement.{statement}
 use Rattle.row_text.proofs.write.row_fits.Tie as tie

@@ -8,7 +8,7 @@ use lib.ListN.{length, set}
 use borrow.Author.Needs.{needs}
 use Rattle.definitions.specs.Number.{over}
 use Rattle.definitions.specs.Listing.{newline}
-use Rattle.text.specs.Decimal.{decimal-short}
+use Rattle.decimal_text.specs.Decimal.{decimal-short}
 use Rattle.text.specs.Lines.{shortLine, line-length, line-counted, line-end}
 use Rattle.slice_laws.specs.Place.{fits-room, fits-put, fits-not}
 use Rattle.text.proofs.lines.put_line.Statement.{statement}

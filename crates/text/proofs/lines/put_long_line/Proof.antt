@@ -6,7 +6,7 @@ use native.Mathlib.Omega.{arith}
 use denote.Ref.{now}
 use lib.ListN.{length}
 use borrow.Author.Needs.{needs}
-use Rattle.text.specs.Decimal.{decimal-short}
+use Rattle.decimal_text.specs.Decimal.{decimal-short}
 use Rattle.text.specs.Lines.{longLine, long-counted}
 use Rattle.slice_laws.specs.Place.{fits-room, fits-put, fits-not}
 use Rattle.text.proofs.lines.put_long_line.Statement.{statement}

@@ -1,4 +1,4 @@
--- `text::write::fits` tests that n bytes fit behind a place. Assumes nothing.
+-- `decimal_text::write::fits` tests that n bytes fit behind a place. Assumes nothing.
 use mathlib.Core.Path.{_∙_, sym}
 use Prim.Native.Nat.{_+_, _<_}
 use native.Mathlib.Omega.{arith}
@@ -6,8 +6,8 @@ use borrow.Author.Needs.{needs}
 use borrow.Author.Tests.{lt-leb}
 use lib.ListN.{length}
 use Rattle.slice_laws.specs.Place.{room-test}
-use Rattle.text.proofs.write.fits.Statement.{statement}
-use Rattle.text.proofs.write.fits.Tie as tie
+use Rattle.decimal_text.proofs.write.fits.Statement.{statement}
+use Rattle.decimal_text.proofs.write.fits.Tie as tie
 
 returns : tie.Need-returns
 returns c = room-test (c .before .args .at) (c .before .args .n) (length (c .before .args .out .now)) (c .if1 .taken)

@@ -1,13 +1,13 @@
--- `text::write::digits` counts the digits of n. The invariant: k, and the digits of the rest but one, are the digits of n together.
+-- `decimal_text::write::digits` counts the digits of n. The invariant: k, and the digits of the rest but one, are the digits of n together.
 -- The measure is the rest. Assumes nothing.
 use mathlib.Core.Path.{_≡_, ap}
 use Prim.Native.Nat.{_+_}
 use native.Mathlib.Omega.{arith}
 use lib.ListN.{length}
 use Rattle.definitions.specs.Listing.{decimal}
-use Rattle.text.specs.Decimal.{decimal-digit, decimal-length-more, decimal-short}
-use Rattle.text.proofs.write.digits.Statement.{statement}
-use Rattle.text.proofs.write.digits.Tie as tie
+use Rattle.decimal_text.specs.Decimal.{decimal-digit, decimal-length-more, decimal-short}
+use Rattle.decimal_text.proofs.write.digits.Statement.{statement}
+use Rattle.decimal_text.proofs.write.digits.Tie as tie
 
 abbrev Inv-loop : tie.InvT-loop
 Inv-loop n k₀ rest₀ k rest = k + length (decimal rest) ≡ 1 + length (decimal n)

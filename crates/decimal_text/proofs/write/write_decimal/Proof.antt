@@ -1,4 +1,4 @@
--- `text::write::write_decimal` writes the digits of n over what stood at the place. The invariant: the digits of the rest end at the place of
+-- `decimal_text::write::write_decimal` writes the digits of n over what stood at the place. The invariant: the digits of the rest end at the place of
 -- the next one, and over what stands there now they are the digits of n over what stood there at first. The measure is the rest. Assumes nothing.
 use mathlib.Core.Path.{_≡_, refl, ap, _∙_}
 use Prim.Native.Nat.{ℕ, _+_, _≤_}
@@ -7,9 +7,9 @@ use lib.ListN.{length, length-set}
 use borrow.Author.Needs.{needs}
 use Rattle.definitions.specs.Listing.{decimal}
 use Rattle.definitions.specs.Number.{over}
-use Rattle.text.specs.Decimal.{decimal-length-more, decimal-turn, decimal-last, decimal-some}
-use Rattle.text.proofs.write.write_decimal.Statement.{statement}
-use Rattle.text.proofs.write.write_decimal.Tie as tie
+use Rattle.decimal_text.specs.Decimal.{decimal-length-more, decimal-turn, decimal-last, decimal-some}
+use Rattle.decimal_text.proofs.write.write_decimal.Statement.{statement}
+use Rattle.decimal_text.proofs.write.write_decimal.Tie as tie
 
 abbrev Inv-loop : tie.InvT-loop
 Inv-loop out₀ at n end place₀ rest₀ out place rest =

@@ -1,10 +1,10 @@
--- `text::put_decimal` puts the digits of n at the place where they fit. Assumes nothing.
+-- `decimal_text::put_decimal` puts the digits of n at the place where they fit. Assumes nothing.
 use denote.Ref.{now}
 use borrow.Author.Needs.{needs}
 use Rattle.definitions.specs.Listing.{decimal}
 use Rattle.slice_laws.specs.Place.{fits-room, fits-put, fits-not}
-use Rattle.text.proofs.put_decimal.Statement.{statement}
-use Rattle.text.proofs.put_decimal.Tie as tie
+use Rattle.decimal_text.proofs.put_decimal.Statement.{statement}
+use Rattle.decimal_text.proofs.put_decimal.Tie as tie
 
 write-decimal-requires : tie.Need-write-decimal-requires
 write-decimal-requires c κs =

@@ -1,0 +1,2 @@
+-- Decimal digits: the laws that the proofs rest on.
+pub mod Decimal
