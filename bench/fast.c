@@ -99,6 +99,23 @@ static int linear_quotients(uint32_t p, uint32_t q)
     return p == 1;
 }
 
+/* The largest degree among the partial quotients, and the degree of the common factor. */
+static FenyurkaQuotients quotients_of(uint32_t p, uint32_t q)
+{
+    FenyurkaQuotients found = {0};
+    while (q != 0) {
+        uint32_t zeros = (uint32_t)__builtin_clz(q), degree = zeros - (uint32_t)__builtin_clz(p), r = p ^ q << degree;
+        if (found.quotient_degree < degree)
+            found.quotient_degree = degree;
+        while (r != 0 && (uint32_t)__builtin_clz(r) <= zeros)
+            r ^= q << (zeros - (uint32_t)__builtin_clz(r));
+        p = q;
+        q = r;
+    }
+    found.common_degree = 31 - (uint32_t)__builtin_clz(p);
+    return found;
+}
+
 static uint32_t step_of(uint32_t p, uint32_t q)
 {
     uint32_t a = 2, e = 1;
@@ -123,12 +140,29 @@ static uint32_t refusal_of(uint32_t m, uint32_t p, uint32_t q)
     return of_full_order(m, p, q) ? 0 : 6;
 }
 
+/* What a refusal carries beside its number. */
+static uint32_t degree_told(uint32_t refusal, uint32_t p, uint32_t q)
+{
+    return refusal == 5 ? quotients_of(p, q).quotient_degree : 0;
+}
+
 FenyurkaJudgement fenyurka_judge(uint32_t degree, uint32_t p, uint32_t q)
 {
     if (degree - 2 > MOST - 2)
         return (FenyurkaJudgement){.refusal = 1};
     uint32_t refusal = refusal_of(degree, p, q);
-    return (FenyurkaJudgement){.refusal = refusal, .step = refusal == 0 ? step_of(p, q) : 0};
+    if (refusal != 0)
+        return (FenyurkaJudgement){.refusal = refusal, .quotient_degree = degree_told(refusal, p, q)};
+    return (FenyurkaJudgement){.step = step_of(p, q)};
+}
+
+FenyurkaQuotients fenyurka_quotients(uint32_t degree, uint32_t p, uint32_t q)
+{
+    if (degree - 2 > MOST - 2)
+        return (FenyurkaQuotients){.refusal = 1};
+    if (!well_formed(degree, p, q))
+        return (FenyurkaQuotients){.refusal = 3};
+    return quotients_of(p, q);
 }
 
 /* ---- t-values: the lightest relation between leading digits, m + 1 where there is none as light */
@@ -313,7 +347,7 @@ FenyurkaPage fenyurka_page_after(FenyurkaList list, uint32_t p, uint32_t q, uint
     if (refusal == 0)
         refusal = refusal_of(list.degree, p, q);
     if (refusal != 0)
-        return (FenyurkaPage){.refusal = refusal};
+        return (FenyurkaPage){.refusal = refusal, .quotient_degree = degree_told(refusal, p, q)};
     begin(&s, list.degree, p, q, 2);
     next_t(&s);
     for (uint32_t d = 3; d <= list.top; d++)
@@ -343,7 +377,7 @@ FenyurkaPoints fenyurka_points(uint32_t degree, uint32_t p, uint32_t q, uint32_t
         return (FenyurkaPoints){.refusal = 1};
     uint32_t refusal = refusal_of(degree, p, q), period = (1u << degree) - 1;
     if (refusal != 0)
-        return (FenyurkaPoints){.refusal = refusal};
+        return (FenyurkaPoints){.refusal = refusal, .quotient_degree = degree_told(refusal, p, q)};
     if (first >= period)
         return (FenyurkaPoints){.refusal = 8};
     uint32_t x = first == 0 ? 1 : power(degree, p, q, first);

@@ -94,6 +94,44 @@ static void judging(void)
     measured("judging any pair", 1000);
 }
 
+/* Pairs that are refused 5: p of a row, and some q. */
+static void refusals(void)
+{
+    static uint32_t ps[SAMPLE], qs[SAMPLE];
+    FenyurkaList asked = {.degree = degree, .top = TOP};
+    uint32_t p, seed = 3;
+    size_t n = rows < SAMPLE ? rows : SAMPLE;
+    for (size_t k = 0; k < n; k++) {
+        ps[k] = sample(k)[0];
+        do
+            draw(&seed, &p, &qs[k]);
+        while (fenyurka_judge(degree, ps[k], qs[k]).refusal != 5);
+    }
+    mark();
+    for (size_t k = 0; k < n; k++)
+        sink = fenyurka_judge(degree, ps[k], qs[k]).refusal;
+    measured("judging a pair refused 5", n);
+    mark();
+    for (size_t k = 0; k < n; k++)
+        sink = fenyurka_page_after(asked, ps[k], qs[k], room, WIDTH).refusal;
+    measured("page: after a pair refused 5", n);
+    mark();
+    for (size_t k = 0; k < n; k++)
+        sink = fenyurka_points(degree, ps[k], qs[k], 0, room, 1).refusal;
+    measured("points: of a pair refused 5", n);
+}
+
+static void quotients(void)
+{
+    uint32_t p, q, seed = 4;
+    mark();
+    for (int k = 0; k < 1000; k++) {
+        draw(&seed, &p, &q);
+        sink = fenyurka_quotients(degree, p, q).quotient_degree;
+    }
+    measured("quotient test of any pair", 1000);
+}
+
 static void t_values(void)
 {
     uint32_t p, q, seed = 2;
@@ -192,6 +230,8 @@ int main(void)
     for (degree = 8; degree <= 16; degree += 2) {
         pages();
         judging();
+        refusals();
+        quotients();
         t_values();
         points();
         writing();

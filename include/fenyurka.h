@@ -10,7 +10,8 @@
  * m (2 to 16) and 1 <= q < 2^m. You need not check numbers before a call: any 32-bit value is allowed for any number.
  *
  * Results. Every function returns a struct by value. Its field `refusal` is 0, or the number of a refusal (enum fenyurka_refusal);
- * where several refusals apply it is the lowest. All other fields are 0 when the call is refused. fenyurka_row has no refusals.
+ * where several refusals apply it is the lowest. All other fields are 0 when the call is refused, with one exception: refusal 5 comes
+ * with `quotient_degree`, which says how bad the quotients of the pair are. fenyurka_row has no refusals.
  *
  * Buffers. A buffer is two parameters, a pointer and a length in elements. A refused call writes nothing; any other call writes
  * only what its comment says, from the front of the buffer, and leaves the elements behind that unchanged. The caller must pass
@@ -67,7 +68,8 @@ typedef struct FenyurkaList {
 
 typedef struct FenyurkaJudgement {
     uint32_t refusal;
-    uint32_t step; /* the s with x^s = q (mod p) and 0 < s < 2^m - 1 */
+    uint32_t quotient_degree; /* refusal 5: the largest degree among the partial quotients, 2 to m; else 0 */
+    uint32_t step;            /* the s with x^s = q (mod p) and 0 < s < 2^m - 1 */
 } FenyurkaJudgement;
 
 /*
@@ -75,6 +77,20 @@ typedef struct FenyurkaJudgement {
  * Refusals: 1, 3, 4, 5, 6.
  */
 FenyurkaJudgement fenyurka_judge(uint32_t degree, uint32_t p, uint32_t q);
+
+typedef struct FenyurkaQuotients {
+    uint32_t refusal;
+    uint32_t quotient_degree; /* the largest degree among the partial quotients, 1 to m */
+    uint32_t common_degree;   /* the degree of the common factor of p and q, 0 if there is none */
+} FenyurkaQuotients;
+
+/*
+ * How bad the partial quotients of q/p are, as Euclid's algorithm on (p, q) finds them. For every well-formed pair, accepted by
+ * fenyurka_judge or not. Refusal 5 of a pair is never given where the largest degree is 1 and there is no common factor. The t-value
+ * in dimension 2 is the larger of quotient_degree - 1 and common_degree.
+ * Refusals: 1, 3.
+ */
+FenyurkaQuotients fenyurka_quotients(uint32_t degree, uint32_t p, uint32_t q);
 
 typedef struct FenyurkaTValue {
     uint32_t refusal;
@@ -91,8 +107,9 @@ FenyurkaTValue fenyurka_t_value(uint32_t degree, uint32_t p, uint32_t q, uint32_
 
 typedef struct FenyurkaPage {
     uint32_t refusal;
-    uint32_t more; /* 1 if the list has rows behind this page, else 0 */
-    size_t count;  /* how many rows were written (rows, not numbers) */
+    uint32_t quotient_degree; /* refusal 5: the largest degree among the partial quotients, 2 to m; else 0 */
+    uint32_t more;            /* 1 if the list has rows behind this page, else 0 */
+    size_t count;             /* how many rows were written (rows, not numbers) */
 } FenyurkaPage;
 
 /*
@@ -113,7 +130,8 @@ FenyurkaPage fenyurka_page_after(FenyurkaList list, uint32_t p, uint32_t q, uint
 
 typedef struct FenyurkaPoints {
     uint32_t refusal;
-    size_t count; /* how many words were written */
+    uint32_t quotient_degree; /* refusal 5: the largest degree among the partial quotients, 2 to m; else 0 */
+    size_t count;             /* how many words were written */
 } FenyurkaPoints;
 
 /*

@@ -12,10 +12,10 @@
 
 /* ---- what is compared, and chance */
 
-enum call { JUDGE, T_VALUE, FIRST_PAGE, PAGE_AFTER, WALK, POINTS, OPEN, LOOKUP, ROW, END, WRITE, READ_BACK, CALLS };
+enum call { JUDGE, QUOTIENTS, T_VALUE, FIRST_PAGE, PAGE_AFTER, WALK, POINTS, OPEN, LOOKUP, ROW, END, WRITE, READ_BACK, CALLS };
 static const char *const names[CALLS] = {
-    "judgements", "t-values",       "first pages", "pages after a pair", "walks to the end", "points", "openings", "lookups",
-    "rows read",  "ends of bodies", "files",       "files read back",
+    "judgements", "quotient tests", "t-values",  "first pages",    "pages after a pair", "walks to the end", "points",
+    "openings",   "lookups",        "rows read", "ends of bodies", "files",              "files read back",
 };
 /* How often each was answered with each number, and how often it differed. */
 enum { MOST_REFUSAL = 14 };
@@ -100,11 +100,29 @@ static void *fenced(int second, const void *bytes, size_t length)
 
 /* ---- one call each */
 
+/* What a refusal carries: 5 the largest degree among the partial quotients of its pair, any other nothing. */
+static uint32_t carried_by(uint32_t refusal, uint32_t m, uint32_t p, uint32_t q)
+{
+    uint32_t largest = 0, common;
+    if (refusal == 5)
+        reference_quotients(m, p, q, &largest, &common);
+    return largest;
+}
+
 void try_judge(uint32_t m, uint32_t p, uint32_t q)
 {
     uint32_t step = 0, refusal = reference_judge(m, p, q, &step);
     FenyurkaJudgement got = fenyurka_judge(m, p, q);
-    SAME(JUDGE, refusal, got.refusal == refusal && got.step == step, m, p, q);
+    int agrees = got.refusal == refusal && got.step == step && got.quotient_degree == carried_by(refusal, m, p, q);
+    SAME(JUDGE, refusal, agrees, m, p, q);
+}
+
+void try_quotients(uint32_t m, uint32_t p, uint32_t q)
+{
+    uint32_t largest = 0, common = 0, refusal = reference_quotients(m, p, q, &largest, &common);
+    FenyurkaQuotients got = fenyurka_quotients(m, p, q);
+    int agrees = got.refusal == refusal && got.quotient_degree == largest && got.common_degree == common;
+    SAME(QUOTIENTS, refusal, agrees, m, p, q);
 }
 
 void try_t_value(uint32_t m, uint32_t p, uint32_t q, uint32_t dimension)
@@ -122,7 +140,7 @@ void try_page(uint32_t m, uint32_t top, int after, uint32_t p, uint32_t q, size_
     uint32_t refusal = reference_page(m, top, after, p, q, length, &rows, &count, &more);
     FenyurkaList list = {.degree = m, .top = top};
     FenyurkaPage got = after ? fenyurka_page_after(list, p, q, slice, length) : fenyurka_first_page(list, slice, length);
-    int agrees = got.refusal == refusal && got.more == more && got.count == count
+    int agrees = got.refusal == refusal && got.quotient_degree == carried_by(refusal, m, p, q) && got.more == more && got.count == count
                  && slice_is(rows, refusal ? 0 : count * (top + 1), length);
     SAME(after ? PAGE_AFTER : FIRST_PAGE, refusal, agrees, m, top, p, q, length);
 }
@@ -133,7 +151,8 @@ void try_points(uint32_t m, uint32_t p, uint32_t q, uint32_t first, size_t lengt
     size_t count = 0;
     uint32_t *slice = slice_of(length), refusal = reference_points(m, p, q, first, words, length, &count);
     FenyurkaPoints got = fenyurka_points(m, p, q, first, slice, length);
-    int agrees = got.refusal == refusal && got.count == count && slice_is(words, count, length);
+    int agrees = got.refusal == refusal && got.quotient_degree == carried_by(refusal, m, p, q) && got.count == count
+                 && slice_is(words, count, length);
     SAME(POINTS, refusal, agrees, m, p, q, first, length);
 }
 

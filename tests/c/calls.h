@@ -19,6 +19,7 @@ uint32_t near(uint32_t m);
 enum { MOST_BYTES = 1 << 21 };
 
 void try_judge(uint32_t m, uint32_t p, uint32_t q);
+void try_quotients(uint32_t m, uint32_t p, uint32_t q);
 void try_t_value(uint32_t m, uint32_t p, uint32_t q, uint32_t dimension);
 void try_page(uint32_t m, uint32_t top, int after, uint32_t p, uint32_t q, size_t length);
 void try_walk(uint32_t m, uint32_t top, uint32_t least, uint32_t most);

@@ -41,6 +41,7 @@ static void small_degree(uint32_t m)
     for (uint32_t p = 0; p <= 2 * size + 2; p++)
         for (uint32_t q = 0; q <= size + 2; q++) {
             try_judge(m, p, q);
+            try_quotients(m, p, q);
             small_points(m, p, q);
             try_page(m, LEAST_TOP + below(6), 1, p, q, below(40));
             for (uint32_t s = 0; s <= 9; s++)
@@ -93,7 +94,9 @@ static void random_pairs(unsigned rounds)
         uint32_t m = LEAST_DEGREE + below(15);
         draw_pair(m, &p, &q);
         try_judge(near(m), p, q);
+        try_quotients(near(m), p, q);
         draw_pair(m, &p, &q);
+        try_quotients(near(m), p, q);
         try_t_value(near(m), p, q, below(20) == 0 ? extremes[below(EXTREMES)] : 1 + below(8));
     }
 }
@@ -159,6 +162,7 @@ static void extreme_numbers(void)
             extreme_pages(extremes[a], extremes[b]);
             for (int c = 0; c < EXTREMES; c++) {
                 try_judge(extremes[a], extremes[b], extremes[c]);
+                try_quotients(extremes[a], extremes[b], extremes[c]);
                 for (int d = 0; d < EXTREMES; d += 1 + (int)below(3)) {
                     try_t_value(extremes[a], extremes[b], extremes[c], extremes[d]);
                     try_points(extremes[a], extremes[b], extremes[c], extremes[d], below(3));

@@ -1,6 +1,6 @@
-/* Compares the reference with figures printed elsewhere: the examples of document 01, the order of the writer's refusals in document
-   02, and Tables 1 and 2 of document 001 for m = 10 to 16, typed from their pages. Prints each comparison; exit status 1 where one
-   fails that is not noted. */
+/* Compares the reference with figures printed elsewhere: the examples of document 01, K of (11, 2) and the order of the writer's
+   refusals in document 02, and Tables 1 and 2 of document 001 for m = 10 to 16, typed from their pages. Prints each comparison; exit
+   status 1 where one fails that is not noted. */
 #include "reference.h"
 
 #include <inttypes.h>
@@ -30,6 +30,21 @@ static void judging(void)
         uint32_t step = 0;
         hold("judging", reference_judge(c[0], c[1], c[2], &step), c[3]);
         hold("step", step, c[4]);
+    }
+}
+
+static void quotients(void)
+{
+    static const uint32_t cases[][5] = {
+        /* degree, p, q, K, the common factor's degree; but for the first from Euclid's algorithm by hand */
+        {3, 11, 2, 2, 0}, {3, 8, 4, 1, 2}, {4, 31, 1, 4, 0}, {4, 31, 12, 1, 0}, {4, 19, 12, 1, 0},
+    };
+    for (size_t i = 0; i < sizeof cases / sizeof cases[0]; i++) {
+        const uint32_t *c = cases[i];
+        uint32_t largest = 99, common = 99;
+        hold("quotients", reference_quotients(c[0], c[1], c[2], &largest, &common), 0);
+        hold("K", largest, c[3]);
+        hold("common factor", common, c[4]);
     }
 }
 
@@ -181,6 +196,7 @@ static void tables(void)
 int main(void)
 {
     judging();
+    quotients();
     t_values();
     pages();
     words();

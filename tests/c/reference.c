@@ -131,6 +131,23 @@ uint32_t reference_judge(uint32_t m, uint32_t p, uint32_t q, uint32_t *step)
     return 0;
 }
 
+/* The largest degree among the partial quotients of q/p, and the degree of the last divisor, the common factor. */
+uint32_t reference_quotients(uint32_t m, uint32_t p, uint32_t q, uint32_t *largest, uint32_t *common)
+{
+    uint64_t above = p, below = q, quotient, remainder;
+    if (!lawful_degree(m))
+        return 1;
+    if (!well_formed(m, p, q))
+        return 3;
+    for (*largest = 0; below != 0; above = below, below = remainder) {
+        divide(above, below, &quotient, &remainder);
+        if ((uint32_t)degree_of(quotient) > *largest)
+            *largest = (uint32_t)degree_of(quotient);
+    }
+    *common = (uint32_t)degree_of(above);
+    return 0;
+}
+
 /* ---- t-values */
 
 /* q^j mod p for the coordinates j below s. */

@@ -19,6 +19,7 @@ static inline int lawful_top(uint32_t top)
 
 /* Each is a refusal's number, or 0 with the answer. */
 uint32_t reference_judge(uint32_t degree, uint32_t p, uint32_t q, uint32_t *step);
+uint32_t reference_quotients(uint32_t degree, uint32_t p, uint32_t q, uint32_t *largest, uint32_t *common);
 uint32_t reference_t_value(uint32_t degree, uint32_t p, uint32_t q, uint32_t dimension, uint32_t *t);
 
 /* The t-value of a well-formed pair: by counting points in every box, and by the ranks of generating matrices. */

@@ -60,6 +60,11 @@ static void judge(void)
     sink = fenyurka_judge(list.degree, rows[0], rows[1]).step;
 }
 
+static void quotients(void)
+{
+    sink = fenyurka_quotients(list.degree, rows[0], rows[1]).quotient_degree;
+}
+
 static void t_value(void)
 {
     sink = fenyurka_t_value(list.degree, rows[0], rows[1], TOP).t;
@@ -116,6 +121,7 @@ static const struct {
     {"fenyurka_first_page", first_page, STATED},
     {"fenyurka_page_after", page_after, STATED},
     {"fenyurka_judge", judge, STATED},
+    {"fenyurka_quotients", quotients, STATED},
     {"fenyurka_t_value", t_value, STATED},
     {"fenyurka_points", points, STATED},
     {"fenyurka_open", open, STATED},

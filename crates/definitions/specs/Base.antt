@@ -2,7 +2,7 @@
 -- public types of `src/lib.rt` with their cases. Nothing is defined here.
 pub use mathlib.Core.Bool.{Bool, true, false, cond, not, _&&_, _||_}
 pub use mathlib.Core.List.{List, [], _∷_, _++_, map}
-pub use Prim.Native.Nat.{ℕ, zero, suc, _+_, _-_, _*_, _/_, _%_, _^_, min}
+pub use Prim.Native.Nat.{ℕ, zero, suc, _+_, _-_, _*_, _/_, _%_, _^_, min, max}
 pub use Prim.Native.String.{String, len, charAt}
 pub use Prim.Native.Char.{code}
 pub use lib.Dec.{eqb, leb, ltb}
@@ -18,6 +18,8 @@ pub use Rattle.definitions.specs.declared.Refusal.the-variants.{StepNotC
 pub use Rattle.definitions.specs.declared.Refusal.the-variants.{NotAscending, FileTooLong}
 pub use Rattle.definitions.specs.declared.Judgement.{Judgement}
 pub use Rattle.definitions.specs.declared.Judgement.the-variants.{Accepted, Rejected}
+pub use Rattle.definitions.specs.declared.QuotientTest.{QuotientTest}
+pub use Rattle.definitions.specs.declared.QuotientTest.the-variants.{Degrees, Untested}
 pub use Rattle.definitions.specs.declared.Uniformity.{Uniformity}
 pub use Rattle.definitions.specs.declared.Uniformity.the-variants.{Value, Undefined}
 pub use Rattle.definitions.specs.declared.PageAnswer.{PageAnswer}

@@ -1,23 +1,23 @@
--- Judging, a single t-value, pages and points: what each call answers and what each lent slice holds afterwards, for every input.
+-- Judging, the quotient test, a single t-value, pages and points: what each call answers and what each lent slice holds afterwards, for every input.
 -- Assumes nothing.
 use Rattle.definitions.specs.Base.{Bool, not, List, [], _∷_, _++_, ℕ, _-_, _/_, min, ltb, length, Refusal, WrongDegree, WrongDimension}
 use Rattle.definitions.specs.Base.{IllFormedPair, NotPrimitive, QuotientNotLinear, StepNotCoprime, ShortSlice, BeyondPeriod, Selection}
 use Rattle.definitions.specs.Base.{Position, Start, After, PageRequest, Judgement, Accepted, Rejected, Uniformity, Value, Undefined, PageAnswer}
-use Rattle.definitions.specs.Base.{Page, NoPage, PointsAnswer, Written, NotWritten}
+use Rattle.definitions.specs.Base.{Page, NoPage, PointsAnswer, Written, NotWritten, QuotientTest, Degrees, Untested}
 use Rattle.definitions.specs.Number.{join, over}
 use Rattle.definitions.specs.Answers.{Situation, situation, unless}
-use Rattle.definitions.specs.Generator.{lawfulDegree, wellFormed, period, primitive, linearQuotients, coprimeStep, step}
+use Rattle.definitions.specs.Generator.{lawfulDegree, wellFormed, period, primitive, linearQuotients, quotientDegree, commonDegree, coprimeStep, step}
 use Rattle.definitions.specs.Points.{words}
 use Rattle.definitions.specs.Net.{tValue}
 use Rattle.definitions.specs.Pages.{page, more}
 use Rattle.definitions.specs.Ranking.{lawfulTop, lawfulDimension, rowWidth, rowKey, ranked, cutOf}
 
--- The situations that concern a pair, of a lawful degree: 3 to 6.
+-- The situations that concern a pair, of a lawful degree: 3 to 6. Where some quotient is not linear, K says how bad it is.
 unfoldable pub pairSituations : ℕ → ℕ → ℕ → List Situation
 pairSituations m p q =
     situation (not (wellFormed m p q)) IllFormedPair
     ∷ situation (not (primitive m p)) NotPrimitive
-    ∷ situation (not (linearQuotients p q)) QuotientNotLinear
+    ∷ situation (not (linearQuotients p q)) (QuotientNotLinear (quotientDegree p q))
     ∷ situation (not (coprimeStep m p q)) StepNotCoprime
     ∷ []
 
@@ -27,6 +27,13 @@ judging m p q = situation (not (lawfulDegree m)) WrongDegree ∷ pairSituations 
 
 unfoldable pub judgement : ℕ → ℕ → ℕ → Judgement
 judgement m p q = unless (judging m p q) Rejected (Accepted (step m p q))
+
+-- The quotient test: 1, 3; else K and the degree of the common factor.
+unfoldable pub testing : ℕ → ℕ → ℕ → List Situation
+testing m p q = situation (not (lawfulDegree m)) WrongDegree ∷ situation (not (wellFormed m p q)) IllFormedPair ∷ []
+
+unfoldable pub quotientTest : ℕ → ℕ → ℕ → QuotientTest
+quotientTest m p q = unless (testing m p q) Untested (Degrees (quotientDegree p q) (commonDegree p q))
 
 -- A single t-value: 1 to 3; else the t-value.
 unfoldable pub measuring : ℕ → ℕ → ℕ → ℕ → List Situation

@@ -7,7 +7,8 @@ use Rattle.definitions.specs.Calls.{judgement, uniformity, pageRequest, 
 use Rattle.definitions.specs.Calls.{positionSituations, paging, pageRows, furtherRow, pointing}
 use Rattle.definitions.specs.Number.{first, every, count, numbers, keep, all, over, gcdWithin, gcd}
 use Rattle.definitions.specs.Polynomial.{_⊕_, degreeWithin, degree, byDigitsWithin, byDigits, prod, power, clear, bringDown, divide, quot, rem}
-use Rattle.definitions.specs.Generator.{wellFormed, order, primitive, found, expansionWithin, expansion, linearQuotients, step, coprimeStep, accepted}
+use Rattle.definitions.specs.Generator.{wellFormed, order, primitive, found, expansionWithin, expansion, linearQuotients, highest, quotientDegree}
+use Rattle.definitions.specs.Generator.{step, coprimeStep, accepted}
 use Rattle.definitions.specs.Points.{leading, state, word, words, coordinate}
 use Rattle.definitions.specs.Net.{everyShare, everyBox, inBox, isNet, tValue}
 use Rattle.definitions.specs.Pages.{before, above, insert, insertAll, sort, rest, page, more}
@@ -18,7 +19,7 @@ pub record Example : Type 0 where
   pub defined : List ℕ
   pub printed : List ℕ
 
--- A pair of degree m is judged: 0 and its step, or the refusal.
+-- A pair of degree m is judged: 0, 0 and its step, or the refusal and what it carries.
 unfoldable pub judges : ℕ → ℕ → ℕ → List ℕ → Example
 unfolding judgement
 judges m p q l = record { defined = judgementValues (judgement m p q); printed = l }
@@ -47,19 +48,19 @@ begins m p q w = record { defined = pointsSlice m p q 0 (0 ∷ []); printed = w 
 unfoldable pub table : List Example
 unfolding judges steps measures lists begins
 table =
-    judges 2 7 2 (0 ∷ 1 ∷ [])
-    ∷ judges 3 11 7 (0 ∷ 5 ∷ [])
-    ∷ judges 3 13 5 (0 ∷ 3 ∷ [])
-    ∷ judges 3 11 2 (5 ∷ [])
-    ∷ judges 4 31 12 (4 ∷ [])
+    judges 2 7 2 (0 ∷ 0 ∷ 1 ∷ [])
+    ∷ judges 3 11 7 (0 ∷ 0 ∷ 5 ∷ [])
+    ∷ judges 3 13 5 (0 ∷ 0 ∷ 3 ∷ [])
+    ∷ judges 3 11 2 (5 ∷ 2 ∷ [])
+    ∷ judges 4 31 12 (4 ∷ 0 ∷ [])
     ∷ steps 4 19 12 6
-    ∷ judges 4 19 12 (6 ∷ [])
+    ∷ judges 4 19 12 (6 ∷ 0 ∷ [])
     ∷ measures 2 7 2 4 1
     ∷ measures 3 11 4 3 1
     ∷ measures 3 11 2 2 1
     ∷ measures 3 8 4 2 2
-    ∷ lists 4 3 4 (0 ∷ 0 ∷ 0 ∷ []) (0 ∷ 0 ∷ 0 ∷ 0 ∷ [])
-    ∷ lists 3 4 20 (0 ∷ 4 ∷ 0 ∷ []) (11 ∷ 4 ∷ 2 ∷ 1 ∷ 1 ∷ 11 ∷ 7 ∷ 5 ∷ 1 ∷ 1 ∷ 13 ∷ 5 ∷ 3 ∷ 1 ∷ 1 ∷ 13 ∷ 7 ∷ 4 ∷ 1 ∷ 1 ∷ [])
+    ∷ lists 4 3 4 (0 ∷ 0 ∷ 0 ∷ 0 ∷ []) (0 ∷ 0 ∷ 0 ∷ 0 ∷ [])
+    ∷ lists 3 4 20 (0 ∷ 0 ∷ 4 ∷ 0 ∷ []) (11 ∷ 4 ∷ 2 ∷ 1 ∷ 1 ∷ 11 ∷ 7 ∷ 5 ∷ 1 ∷ 1 ∷ 13 ∷ 5 ∷ 3 ∷ 1 ∷ 1 ∷ 13 ∷ 7 ∷ 4 ∷ 1 ∷ 1 ∷ [])
     -- 2E5CB972
     ∷ begins 3 11 4 777828722
     ∷ []
@@ -95,7 +96,7 @@ agrees-equal (e ∷ l) t =
 
 -- To unfold this is to unfold all that the first four calls are defined by, so that they compute.
 unfoldable pub calls : ℕ
-unfolding first every count numbers keep all over gcdWithin gcd _⊕_ degreeWithin degree byDigitsWithin byDigits prod power clear bringDown divide quot rem wellFormed order primitive found expansionWithin expansion linearQuotients step coprimeStep accepted leading state word words coordinate everyShare everyBox inBox isNet tValue before above insert insertAll sort rest page more tValues row rowKey allPairs listedPairs ranked cutOf unless pairSituations judging judgement measuring uniformity positionSituations paging pageRows furtherRow pageAnswer pageSlice pointing pointsSlice
+unfolding first every count numbers keep all over gcdWithin gcd _⊕_ degreeWithin degree byDigitsWithin byDigits prod power clear bringDown divide quot rem wellFormed order primitive found expansionWithin expansion linearQuotients highest quotientDegree step coprimeStep accepted leading state word words coordinate everyShare everyBox inBox isNet tValue before above insert insertAll sort rest page more tValues row rowKey allPairs listedPairs ranked cutOf unless pairSituations judging judgement measuring uniformity positionSituations paging pageRows furtherRow pageAnswer pageSlice pointing pointsSlice
 calls = 0
 
 starred-test : T (agrees table)

@@ -1,6 +1,7 @@
--- Generators: what makes a pair (p, q) of degree m well-formed, primitive and accepted; partial quotients, the tree of pairs, the step.
+-- Generators: what makes a pair (p, q) of degree m well-formed, primitive and accepted; partial quotients and their degrees, the tree of pairs, the
+-- step.
 -- Assumes nothing.
-use Rattle.definitions.specs.Base.{Bool, _&&_, List, [], _∷_, _++_, ℕ, zero, suc, _-_, _^_, eqb, leb, ltb}
+use Rattle.definitions.specs.Base.{Bool, _&&_, List, [], _∷_, _++_, ℕ, zero, suc, _-_, _^_, max, eqb, leb, ltb}
 use Rattle.definitions.specs.Number.{first, all, gcd}
 use Rattle.definitions.specs.Polynomial.{_⊕_, degree, prod, quot, rem}
 
@@ -53,6 +54,19 @@ linear a = eqb (degree a) 1
 -- Quotients: every partial quotient of q/p has degree one, and p and q have no common factor.
 unfoldable pub linearQuotients : ℕ → ℕ → Bool
 linearQuotients p q = all linear (expansion p q .quotients) && eqb (expansion p q .common) 1
+
+-- The largest degree among polynomials, 0 where there are none.
+unfoldable pub highest : List ℕ → ℕ
+highest [] = 0
+highest (a ∷ l) = max (degree a) (highest l)
+
+-- K of document 000: the largest degree among the partial quotients of q/p.
+unfoldable pub quotientDegree : ℕ → ℕ → ℕ
+quotientDegree p q = highest (expansion p q .quotients)
+
+-- The degree of the common factor of p and q, 0 if there is none.
+unfoldable pub commonDegree : ℕ → ℕ → ℕ
+commonDegree p q = degree (expansion p q .common)
 
 -- Step: the σ with x^σ ≡ q (mod p) and 0 < σ < 2^m - 1, the first power of x that equals q; 2^m - 1 where there is none.
 unfoldable pub step : ℕ → ℕ → ℕ → ℕ

@@ -19,13 +19,14 @@ pub struct PageRequest {
     pub position: Position,
 }
 
-// Why a call refuses. `specs/Answers.antt` gives each its number.
+// Why a call refuses. `specs/Answers.antt` gives each its number. A quotient that is not linear comes with K, the largest degree among the partial
+// quotients.
 pub enum Refusal {
     WrongDegree,
     WrongDimension,
     IllFormedPair,
     NotPrimitive,
-    QuotientNotLinear,
+    QuotientNotLinear(u32),
     StepNotCoprime,
     ShortSlice,
     BeyondPeriod,
@@ -39,6 +40,12 @@ pub enum Refusal {
 pub enum Judgement {
     Accepted(u32),
     Rejected(Refusal),
+}
+
+// The quotient test: K, the largest degree among the partial quotients, and the degree of the common factor.
+pub enum QuotientTest {
+    Degrees(u32, u32),
+    Untested(Refusal),
 }
 
 // A single t-value.

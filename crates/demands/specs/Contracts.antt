@@ -4,24 +4,26 @@
 use mathlib.Core.Path.{_≡_, sym, _∙_}
 use mathlib.Core.Logic.{_↔_}
 use mathlib.Core.Bool.{true}
-use mathlib.Core.List.{List, []}
-use Prim.Native.Nat.{ℕ, _≤_}
+use mathlib.Core.List.{List, [], List·Memᴰ}
+use Prim.Native.Nat.{ℕ, _-_, _≤_, max}
 use lib.ListN.{length}
 use denote.Ref.{now}
 use base.Logic.{ent}
 use contract.Monad.{fact, fact-mono}
 use borrow.Fn.World.{World, ArgsD}
 use Rattle.definitions.specs.Number.{over}
-use Rattle.definitions.specs.Answers.{judgementValues, uniformityValues, pageValues, pointsValues, openingValues, lookupValues, fileValues}
-use Rattle.definitions.specs.Generator.{lawfulDegree, period}
+use Rattle.definitions.specs.Answers.{judgementValues, quotientTestValues, uniformityValues, pageValues, pointsValues, openingValues, lookupValues}
+use Rattle.definitions.specs.Answers.{fileValues}
+use Rattle.definitions.specs.Generator.{lawfulDegree, period, tree}
 use Rattle.definitions.specs.Points.{words}
 use Rattle.definitions.specs.Ranking.{lawfulTop}
-use Rattle.definitions.specs.Calls.{judging, measuring, pageRequest, paging, pointing}
+use Rattle.definitions.specs.Calls.{judging, testing, measuring, pageRequest, paging, pointing}
 use Rattle.definitions.specs.Catalogue.{looking, lookupNumbers}
 use Rattle.definitions.specs.Writing.{writing}
 use Rattle.definitions.specs.declared.Refusal.{Refusal}
 use Rattle.definitions.specs.declared.Selection.{Selection}
 use Rattle.definitions.specs.declared.Judgement.the-variants.{Accepted}
+use Rattle.definitions.specs.declared.QuotientTest.the-variants.{Degrees}
 use Rattle.definitions.specs.declared.Uniformity.the-variants.{Value}
 use Rattle.definitions.specs.declared.Lookup.the-variants.{NoBody}
 use Rattle.definitions.specs.declared.PageAnswer.the-variants.{NoPage}
@@ -29,22 +31,25 @@ use Rattle.definitions.specs.declared.PointsAnswer.the-variants.{NotWritten}
 use Rattle.definitions.specs.declared.FileAnswer.the-variants.{File, NoFile}
 use Rattle.definitions.specs.declared.PageRequest.{PageRequest}
 use Rattle.definitions.specs.declared.Position.{Position}
-use Rattle.definitions.specs.declared.Position.the-variants.{After}
+use Rattle.definitions.specs.declared.Position.the-variants.{Start, After}
 use Rattle.net_laws.specs.Smallest.{SmallestNet}
 use Rattle.number_laws.specs.Bounds.{LawfulDegree, LawfulTop}
 use Rattle.results.specs.Results.{value}
 use Rattle.demands.specs.Arguments.{second, fifth}
 use Rattle.demands.specs.Demand1.{Exact, LowestGiven, numberOf, formSituation, opening-exact, looking-empty, looking-exact, looking-lowest}
 use Rattle.demands.specs.Demand1.{ByTable, judging-table, paging-after-table, pointing-table}
-use Rattle.demands.specs.Demand1.{judging-exact, judging-lowest, measuring-exact, measuring-lowest}
+use Rattle.demands.specs.Demand1.{judging-exact, judging-lowest, testing-exact, testing-lowest, measuring-exact, measuring-lowest}
 use Rattle.demands.specs.Demand1.{paging-exact, paging-lowest, paging-keeps, pointing-exact, pointing-lowest, pointing-keeps}
 use Rattle.demands.specs.Demand1.{writing-exact, writing-lowest, writing-keeps}
+use Rattle.demands.specs.Quotients.{Tested, tested-exactly, tree-tested, plane-tested, CarriesK, carriedOf, judging-carries, pointing-carries}
+use Rattle.demands.specs.Quotients.{paging-carries, paging-first-carries}
 use Rattle.demands.specs.Catalogues.{reading-exact}
 use Rattle.demands.specs.Files.{WrittenFile, written-file}
 use Rattle.demands.specs.Demand2.{Conditions, accepted-exactly, uniformity-smallest, period-written}
 use Rattle.demands.specs.Demand3.{Faithful, ReadsList, faithful-list}
 use Rattle.demands.specs.Period.{FaithfulPoints, ReadsPeriod, faithful-period}
 use Rattle.generator.proofs.judge.Reads as judge
+use Rattle.quotient_test.proofs.test_quotients.Reads as test-quotients
 use Rattle.net.proofs.t_value.Reads as t-value
 use Rattle.ranking.proofs.page.Reads as page
 use Rattle.points.proofs.points.Reads as points
@@ -66,8 +71,30 @@ module _ (κs : _) (m p q : ℕ) (r : _) (e : _) (h : judge.Post κs (m, (p, (q,
   pub judge-table : LawfulDegree m → ByTable m p q (numberOf (judgementValues r))
   judge-table lawful = rw h (judging-table m p q lawful)
 
+  pub judge-carries : CarriesK m p q (numberOf (judgementValues r)) (carriedOf (judgementValues r))
+  judge-carries = rw h (judging-carries m p q)
+
   pub judge-accepts : (σ : ℕ) → (r ≡ Accepted σ) ↔ Conditions m p q σ
   judge-accepts σ = rw h (accepted-exactly m p q σ)
+
+-- ---- the quotient test
+
+module _ (κs : _) (m p q : ℕ) (r : _) (e : _) (h : test-quotients.Post κs (m, (p, (q, tt))) r e) where
+  pub quotients-exact : Exact (testing m p q) (numberOf (quotientTestValues r))
+  quotients-exact = rw h (testing-exact m p q)
+
+  pub quotients-lowest : LowestGiven (testing m p q) (numberOf (quotientTestValues r))
+  quotients-lowest = rw h (testing-lowest m p q)
+
+  pub quotients-tested : (k c : ℕ) → (r ≡ Degrees k c) ↔ Tested m p q k c
+  quotients-tested k c = rw h (tested-exactly m p q k c)
+
+  pub quotients-tree : LawfulDegree m → (r ≡ Degrees 1 0) ↔ List·Memᴰ (record { p = p; q = q }) (tree m)
+  quotients-tree lawful = rw h (tree-tested m p q lawful)
+
+  -- Beside it the t-value of the same pair in dimension 2.
+  pub quotients-plane : (κs′ : _) (t : _) (e′ : _) → t-value.Post κs′ (m, (p, (q, (2, tt)))) t e′ → (k c : ℕ) → r ≡ Degrees k c → t ≡ Value (max (k - 1) c)
+  quotients-plane κs′ t e′ g k c d = g ∙ plane-tested m p q k c (sym h ∙ d)
 
 -- ---- a single t-value
 
@@ -92,6 +119,9 @@ module _ (κs : _) (m p q first : ℕ) (lent : _) (r : _) (e : _) (h : points.Po
 
   pub points-table : LawfulDegree m → ByTable m p q (numberOf (pointsValues r))
   points-table lawful = rw (h .0) (pointing-table m p q first (now lent) lawful)
+
+  pub points-carries : CarriesK m p q (numberOf (pointsValues r)) (carriedOf (pointsValues r))
+  points-carries = rw (h .0) (pointing-carries m p q first (now lent))
 
   pub points-keep : (n : Refusal) → r ≡ NotWritten n → now (fifth e) ≡ now lent
   points-keep n d = h .1 ∙ pointing-keeps m p q first (now lent) n (sym (h .0) ∙ d)
@@ -170,12 +200,18 @@ module _ (κs : _) (l : Selection) (p q : ℕ) (lent : _) (r : _) (e : _) (h : p
   pub page-after-table : LawfulDegree (l .degree) → LawfulTop (l .top) → ByTable (l .degree) p q (numberOf (pageValues r))
   page-after-table degree top = rw (h .0) (paging-after-table l (now lent) p q degree top)
 
+  pub page-after-carries : CarriesK (l .degree) p q (numberOf (pageValues r)) (carriedOf (pageValues r))
+  page-after-carries = rw (h .0) (paging-carries l p q (now lent))
+
+pub page-first-carries : (κs : _) (l : Selection) (lent : _) (r : _) (e : _) → page.Post κs (pageRequest l Start, (lent, tt)) r e → carriedOf (pageValues r) ≡ 0
+page-first-carries κs l lent r e h = rw (h .0) (paging-first-carries l (now lent))
+
 -- ---- the walk of pages
 
 -- Asked by `page`, its contract being met.
 pub data AskedPage (l : Selection) : Position → List ℕ → ℕ → ℕ → ℕ → List ℕ → Type 0 where
   asked-page : {at : Position} (κs : _) (lent : _) (r : _) (e : _) → page.Post κs (pageRequest l at, (lent, tt)) r e
-      → AskedPage l at (now lent) (value (pageValues r) 0) (value (pageValues r) 1) (value (pageValues r) 2) (now (second e))
+      → AskedPage l at (now lent) (value (pageValues r) 0) (value (pageValues r) 2) (value (pageValues r) 3) (now (second e))
 
 page-faithful : (l : Selection) → Faithful l (AskedPage l)
 page-faithful l at s x n more left (asked-page κs lent r e h) =
@@ -190,7 +226,7 @@ page-reads-list l degree dimension = faithful-list l degree dimension (page-fait
 -- Asked by `points`, its contract being met.
 pub data AskedPoints (m p q : ℕ) : ℕ → List ℕ → ℕ → ℕ → List ℕ → Type 0 where
   asked-points : {first : ℕ} (κs : _) (lent : _) (r : _) (e : _) → points.Post κs (m, (p, (q, (first, (lent, tt))))) r e
-      → AskedPoints m p q first (now lent) (value (pointsValues r) 0) (value (pointsValues r) 1) (now (fifth e))
+      → AskedPoints m p q first (now lent) (value (pointsValues r) 0) (value (pointsValues r) 2) (now (fifth e))
 
 points-faithful : (m p q : ℕ) → FaithfulPoints m p q (AskedPoints m p q)
 points-faithful m p q first s x n left (asked-points κs lent r e h) = record { refusal-is = rw (h .0); count-is = rw (h .0); slice-is = h .1 }

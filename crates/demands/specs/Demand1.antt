@@ -11,9 +11,10 @@ use native.Mathlib.Omega.{arith}
 use lib.Dec.{eqb, ltb}
 use lib.ListN.{length, getD}
 use Rattle.definitions.specs.Answers.{Situation, situation, refusalNumber, unless, judgementValues, uniformityValues, pageValues, pointsValues, openingValues}
-use Rattle.definitions.specs.Answers.{lookupValues, fileValues}
+use Rattle.definitions.specs.Answers.{quotientTestValues, lookupValues, fileValues}
 use Rattle.definitions.specs.Generator.{lawfulDegree, wellFormed, period, primitive, linearQuotients, coprimeStep}
 use Rattle.definitions.specs.Ranking.{lawfulTop, lawfulDimension, rowWidth}
+use Rattle.definitions.specs.Calls.{testing, quotientTest}
 use Rattle.definitions.specs.Calls.{pairSituations, judging, judgement, measuring, uniformity, selectionOf, pageRequest, positionSituations, paging, pageAnswer}
 use Rattle.definitions.specs.Calls.{pageSlice, pointing, pointsAnswer, pointsSlice}
 use Rattle.definitions.specs.Catalogue.{catalogueForm, opening, entryOf, looking, lookupNumbers, lookupPart, readerTop}
@@ -25,6 +26,7 @@ use Rattle.definitions.specs.declared.Position.{Position}
 use Rattle.definitions.specs.declared.Position.the-variants.{Start, After}
 use Rattle.definitions.specs.declared.PageRequest.{PageRequest}
 use Rattle.definitions.specs.declared.Judgement.the-variants.{Rejected}
+use Rattle.definitions.specs.declared.QuotientTest.the-variants.{Untested}
 use Rattle.definitions.specs.declared.Uniformity.the-variants.{Undefined}
 use Rattle.definitions.specs.declared.PageAnswer.the-variants.{NoPage}
 use Rattle.definitions.specs.declared.PointsAnswer.the-variants.{NotWritten}
@@ -87,7 +89,7 @@ by-table m p q front rest {number} lawful x apart none higher n h k =
     )
 
 -- One situation of a higher number behind them.
-higher-last : (b : Bool) (k : Refusal) → 6 < refusalNumber k → {r : Refusal} → Decides r (situation b k ∷ []) → 6 < refusalNumber r
+pub higher-last : (b : Bool) (k : Refusal) → 6 < refusalNumber k → {r : Refusal} → Decides r (situation b k ∷ []) → 6 < refusalNumber r
 higher-last b k h (here e) = h
 higher-last b k h (later e d) = absurd (decides-none d)
 
@@ -116,6 +118,25 @@ module _ (m p q : ℕ) where
       ≡ not (lawfulDegree m) ∷ not (wellFormed m p q) ∷ not (primitive m p) ∷ not (linearQuotients p q) ∷ not (coprimeStep m p q) ∷ []
   unfolding judging pairSituations applies
   judging-situations = refl
+
+-- ---- the quotient test
+
+module _ (m p q : ℕ) where
+  pub testing-uses : numbersOf (testing m p q) ≡ 1 ∷ 3 ∷ []
+  unfolding testing
+  testing-uses = refl
+
+  pub testing-exact : Exact (testing m p q) (numberOf (quotientTestValues (quotientTest m p q)))
+  unfolding testing quotientTest
+  testing-exact = exact quotientTestValues (testing m p q) Untested _ refl (λ r. refl) refl
+
+  pub testing-lowest : LowestGiven (testing m p q) (numberOf (quotientTestValues (quotientTest m p q)))
+  unfolding testing
+  testing-lowest = lowest testing-exact refl
+
+  pub testing-situations : map (applies (testing m p q)) (1 ∷ 3 ∷ []) ≡ not (lawfulDegree m) ∷ not (wellFormed m p q) ∷ []
+  unfolding testing applies
+  testing-situations = refl
 
 -- ---- a single t-value
 

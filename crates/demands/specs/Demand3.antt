@@ -107,8 +107,8 @@ module _ (l : Selection) (call : PageCall) (reads : ReadsList l call)
 -- A call as the definitions have it.
 pub record DefinedPage (l : Selection) (at : Position) (s : List ℕ) (refusal count more : ℕ) (left : List ℕ) : Type 0 where
   pub refusal-is : refusal ≡ value (pageValues (pageAnswer (pageRequest l at) s)) 0
-  pub count-is : count ≡ value (pageValues (pageAnswer (pageRequest l at) s)) 1
-  pub more-is : more ≡ value (pageValues (pageAnswer (pageRequest l at) s)) 2
+  pub count-is : count ≡ value (pageValues (pageAnswer (pageRequest l at) s)) 2
+  pub more-is : more ≡ value (pageValues (pageAnswer (pageRequest l at) s)) 3
   pub slice-is : left ≡ pageSlice (pageRequest l at) s
 
 -- Calls are faithful if each is as the definitions have it.

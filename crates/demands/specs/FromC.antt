@@ -2,7 +2,7 @@
 -- with the value, a refusal leaves the slice as it was, accepted is what demand 2 says, the t-value is the smallest, whoever walks the pages reads
 -- the ranked list, points in pieces are the full period, and a file that was written is read back. Each result holds the values of the definition's
 -- answer. Assumes nothing.
-use mathlib.Core.Path.{_≡_, refl, ap, _∙_}
+use mathlib.Core.Path.{_≡_, refl, ap, ap₂, _∙_}
 use mathlib.Core.Logic.{_↔_}
 use mathlib.Core.Bool.{true}
 use mathlib.Core.List.{List}
@@ -12,19 +12,20 @@ use native.Mathlib.Omega.{arith}
 use lib.ListN.{length}
 use denote.Ref.{now}
 use Rattle.definitions.specs.Number.{over}
-use Rattle.definitions.specs.Answers.{judgementValues, uniformityValues, pageValues, pointsValues, lookupValues, fileValues}
-use Rattle.definitions.specs.Generator.{lawfulDegree, period, step}
+use Rattle.definitions.specs.Answers.{judgementValues, quotientTestValues, uniformityValues, pageValues, pointsValues, lookupValues, fileValues}
+use Rattle.definitions.specs.Generator.{lawfulDegree, period, quotientDegree, commonDegree, step}
 use Rattle.definitions.specs.Points.{words}
 use Rattle.definitions.specs.Ranking.{lawfulTop}
 use Rattle.definitions.specs.Catalogue.{looking, lookupNumbers}
 use Rattle.definitions.specs.Writing.{entriesOf, rankedFile, writing, fileAnswer, fileBuffer}
 use Rattle.definitions.specs.Net.{tValue}
-use Rattle.definitions.specs.Calls.{judging, judgement, measuring, uniformity, paging, pageAnswer, pageSlice}
+use Rattle.definitions.specs.Calls.{judging, judgement, testing, quotientTest, measuring, uniformity, paging, pageAnswer, pageSlice}
 use Rattle.definitions.specs.Calls.{pointing, pointsAnswer, pointsSlice}
 use Rattle.definitions.specs.declared.Position.{Position}
 use Rattle.definitions.specs.declared.Position.the-variants.{Start, After}
 use Rattle.definitions.specs.declared.PageRequest.{PageRequest}
 use Rattle.definitions.specs.declared.Judgement.the-variants.{Accepted, Rejected}
+use Rattle.definitions.specs.declared.QuotientTest.the-variants.{Degrees, Untested}
 use Rattle.definitions.specs.declared.Uniformity.the-variants.{Value, Undefined}
 use Rattle.definitions.specs.declared.FileAnswer.the-variants.{File, NoFile}
 use Rattle.number_laws.specs.Bounds.{LawfulDegree, LawfulTop}
@@ -34,8 +35,9 @@ use Rattle.net_laws.specs.Smallest.{SmallestNet}
 use Rattle.answer_laws.specs.Unless.{unless-given}
 use Rattle.answer_laws.specs.Together.{answered-both}
 use Rattle.answer_laws.specs.Lent.{page-answered, points-answered, file-answered}
-use Rattle.results.specs.Results.{value, judgementResult, tValueResult, pageResult, pointsResult}
+use Rattle.results.specs.Results.{value, judgementResult, quotientsResult, tValueResult, pageResult, pointsResult}
 use Rattle.results.specs.declared.FenyurkaJudgement.{FenyurkaJudgement}
+use Rattle.results.specs.declared.FenyurkaQuotients.{FenyurkaQuotients}
 use Rattle.results.specs.declared.FenyurkaTValue.{FenyurkaTValue}
 use Rattle.results.specs.declared.FenyurkaPage.{FenyurkaPage}
 use Rattle.results.specs.declared.FenyurkaPoints.{FenyurkaPoints}
@@ -45,6 +47,7 @@ use Rattle.interface.specs.Requests.{listOf, pageOf}
 use Rattle.interface.specs.Located.{located-values, located-part}
 use Rattle.interface.specs.declared.FenyurkaList.{FenyurkaList}
 use Rattle.interface.proofs.fenyurka_judge.Reads as c-judge
+use Rattle.interface.proofs.fenyurka_quotients.Reads as c-quotients
 use Rattle.interface.proofs.fenyurka_t_value.Reads as c-t-value
 use Rattle.interface.proofs.fenyurka_first_page.Reads as c-first-page
 use Rattle.interface.proofs.fenyurka_page_after.Reads as c-page-after
@@ -56,7 +59,8 @@ use Rattle.demands.specs.Arguments.{second, fourth, fifth}
 use Rattle.demands.specs.Demand1.{Exact, LowestGiven, ByTable, numberOf, formSituation, opening-exact, looking-exact, looking-lowest}
 use Rattle.demands.specs.Demand1.{judging-exact, judging-lowest, judging-table, measuring-exact, measuring-lowest, paging-exact, paging-lowest}
 use Rattle.demands.specs.Demand1.{paging-after-table, pointing-exact, pointing-lowest, pointing-table}
-use Rattle.demands.specs.Demand1.{writing-exact, writing-lowest}
+use Rattle.demands.specs.Demand1.{testing-exact, testing-lowest, writing-exact, writing-lowest}
+use Rattle.demands.specs.Quotients.{Tested, tested-exactly, CarriesK, judging-carries, pointing-carries, paging-carries, paging-first-carries}
 use Rattle.demands.specs.Files.{WrittenFile, written-file}
 use Rattle.demands.specs.Demand2.{Conditions, accepted-exactly, uniformity-smallest, period-written}
 use Rattle.demands.specs.Demand3.{Faithful, ReadsList, faithful-list}
@@ -81,6 +85,24 @@ module _ (m p q : ℕ) where
 
       from : Conditions m p q σ → (r .refusal ≡ 0) × (r .step ≡ σ)
       from c = rw (h, accepted-exactly m p q σ .1 c) (refl, refl)
+
+  tested-zero : numberOf (quotientTestValues (quotientTest m p q)) ≡ 0 → quotientTest m p q ≡ Degrees (quotientDegree p q) (commonDegree p q)
+  unfolding quotientTest
+  tested-zero z = unless-given Untested _ (testing-exact m p q .none .0 z)
+
+  result-tested : (r : FenyurkaQuotients) → r ≡ quotientsResult (quotientTestValues (quotientTest m p q)) → (k c : ℕ)
+      → ((r .refusal ≡ 0) × (r .«quotient_degree» ≡ k) × (r .«common_degree» ≡ c)) ↔ Tested m p q k c
+  result-tested r h k c = (to, from)
+    where
+      to : (r .refusal ≡ 0) × (r .«quotient_degree» ≡ k) × (r .«common_degree» ≡ c) → Tested m p q k c
+      to g =
+          let given = tested-zero (rw h at (g .0)) in
+          let k-is : quotientDegree p q ≡ k = rw (h, given) at (g .1) in
+          let c-is : commonDegree p q ≡ c = rw (h, given) at (g .2) in
+          tested-exactly m p q k c .0 (given ∙ ap₂ Degrees k-is c-is)
+
+      from : Tested m p q k c → (r .refusal ≡ 0) × (r .«quotient_degree» ≡ k) × (r .«common_degree» ≡ c)
+      from t = rw (h, tested-exactly m p q k c .1 t) (refl, refl, refl)
 
   module _ (s : ℕ) where
     measured-zero : numberOf (uniformityValues (uniformity m p q s)) ≡ 0 → uniformity m p q s ≡ Value (tValue m p q s)
@@ -127,8 +149,21 @@ module _ (κs : _) (m p q : ℕ) (r : _) (e : _) (h : c-judge.Post κs (m, (p, (
   pub c-judge-table : LawfulDegree m → ByTable m p q (r .refusal)
   c-judge-table lawful = rw h (judging-table m p q lawful)
 
+  pub c-judge-carries : CarriesK m p q (r .refusal) (r .«quotient_degree»)
+  c-judge-carries = rw h (judging-carries m p q)
+
   pub c-judge-accepts : (σ : ℕ) → ((r .refusal ≡ 0) × (r .step ≡ σ)) ↔ Conditions m p q σ
   c-judge-accepts = judgement-accepts m p q r h
+
+module _ (κs : _) (m p q : ℕ) (r : _) (e : _) (h : c-quotients.Post κs (m, (p, (q, tt))) r e) where
+  pub c-quotients-exact : Exact (testing m p q) (r .refusal)
+  c-quotients-exact = rw h (testing-exact m p q)
+
+  pub c-quotients-lowest : LowestGiven (testing m p q) (r .refusal)
+  c-quotients-lowest = rw h (testing-lowest m p q)
+
+  pub c-quotients-tested : (k c : ℕ) → ((r .refusal ≡ 0) × (r .«quotient_degree» ≡ k) × (r .«common_degree» ≡ c)) ↔ Tested m p q k c
+  c-quotients-tested = result-tested m p q r h
 
 module _ (κs : _) (m p q s : ℕ) (r : _) (e : _) (h : c-t-value.Post κs (m, (p, (q, (s, tt)))) r e) where
   pub c-t-value-exact : Exact (measuring m p q s) (r .refusal)
@@ -147,6 +182,9 @@ module _ (κs : _) (list : FenyurkaList) (rows : _) (r : _) (e : _) (h : c-first
   pub c-first-page-lowest : LowestGiven (paging (pageOf list Start) (now rows)) (r .refusal)
   c-first-page-lowest = rw (h .0) (paging-lowest (pageOf list Start) (now rows))
 
+  pub c-first-page-carries : r .«quotient_degree» ≡ 0
+  c-first-page-carries = rw (h .0) (paging-first-carries (listOf list) (now rows))
+
   pub c-first-page-keeps : 0 < r .refusal → now (second e) ≡ now rows
   c-first-page-keeps n = h .1 ∙ result-keeps (pageOf list Start) (now rows) r (h .0) n
 
@@ -160,6 +198,9 @@ module _ (κs : _) (list : FenyurkaList) (p q : ℕ) (rows : _) (r : _) (e : _) 
   pub c-page-after-table : LawfulDegree (list .degree) → LawfulTop (list .top) → ByTable (list .degree) p q (r .refusal)
   c-page-after-table degree top = rw (h .0) (paging-after-table (listOf list) (now rows) p q degree top)
 
+  pub c-page-after-carries : CarriesK (list .degree) p q (r .refusal) (r .«quotient_degree»)
+  c-page-after-carries = rw (h .0) (paging-carries (listOf list) p q (now rows))
+
   pub c-page-after-keeps : 0 < r .refusal → now (fourth e) ≡ now rows
   c-page-after-keeps n = h .1 ∙ result-keeps (pageOf list (After p q)) (now rows) r (h .0) n
 
@@ -172,6 +213,9 @@ module _ (κs : _) (m p q first : ℕ) (lent : _) (r : _) (e : _) (h : c-points.
 
   pub c-points-table : LawfulDegree m → ByTable m p q (r .refusal)
   c-points-table lawful = rw (h .0) (pointing-table m p q first (now lent) lawful)
+
+  pub c-points-carries : CarriesK m p q (r .refusal) (r .«quotient_degree»)
+  c-points-carries = rw (h .0) (pointing-carries m p q first (now lent))
 
   pub c-points-keep : 0 < r .refusal → now (fifth e) ≡ now lent
   c-points-keep n = h .1 ∙ points-result-keeps m p q first (now lent) r (h .0) n

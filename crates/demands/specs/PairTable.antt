@@ -13,7 +13,7 @@ use borrow.Author.Tests.{not-true, not-false}
 use Rattle.definitions.specs.Number.{gcd}
 use Rattle.definitions.specs.Polynomial.{prod, rem}
 use Rattle.definitions.specs.Answers.{Situation, refusalNumber}
-use Rattle.definitions.specs.Generator.{leastDegree, wellFormed, period, primitive, linearQuotients, coprimeStep, step}
+use Rattle.definitions.specs.Generator.{leastDegree, wellFormed, period, primitive, linearQuotients, quotientDegree, coprimeStep, step}
 use Rattle.definitions.specs.Calls.{pairSituations}
 use Rattle.definitions.specs.declared.Refusal.{Refusal}
 use Rattle.definitions.specs.declared.Refusal.the-variants.{IllFormedPair, NotPrimitive, QuotientNotLinear, StepNotCoprime}
@@ -128,7 +128,7 @@ module _ (m p q : ℕ) (lawful : LawfulDegree m) where
     table-decides n (pair-not-well-formed h) = (IllFormedPair, here (fails (λ t. h (formed-by t))), refl)
     table-decides n (p-not-primitive w h) = (NotPrimitive, later (formed-test w) (here (fails (λ t. h (order-by t)))), refl)
     table-decides n (some-quotient-not-linear w o some) =
-        (QuotientNotLinear, later (formed-test w) (later (order-test o) (here (some-quotient m p q (lawful .low) w o .1 some))), refl)
+        (QuotientNotLinear (quotientDegree p q), later (formed-test w) (later (order-test o) (here (some-quotient m p q (lawful .low) w o .1 some))), refl)
     table-decides n (step-not-coprime {σ} w o every s shared) =
         let t = every-quotient m p q (lawful .low) w o .1 every in
         let other : coprimeStep m p q ≡ true → ⊥ =

@@ -93,7 +93,7 @@ module _ (m p q : ℕ) (call : PointsCall) (reads : ReadsPeriod m p q call) (nex
 -- A call as the definitions have it.
 pub record DefinedPoints (m p q first : ℕ) (s : List ℕ) (refusal count : ℕ) (left : List ℕ) : Type 0 where
   pub refusal-is : refusal ≡ value (pointsValues (pointsAnswer m p q first s)) 0
-  pub count-is : count ≡ value (pointsValues (pointsAnswer m p q first s)) 1
+  pub count-is : count ≡ value (pointsValues (pointsAnswer m p q first s)) 2
   pub slice-is : left ≡ pointsSlice m p q first s
 
 -- Calls are faithful if each is as the definitions have it.

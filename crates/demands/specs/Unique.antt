@@ -8,6 +8,7 @@ use base.Logic.{ent}
 use contract.Monad.{conj, conjL, conjR, fact, factI, fact-use}
 use borrow.Fn.World.{World, Pr}
 use Rattle.generator.proofs.judge.Reads as judge
+use Rattle.quotient_test.proofs.test_quotients.Reads as test-quotients
 use Rattle.net.proofs.t_value.Reads as t-value
 use Rattle.ranking.proofs.page.Reads as page
 use Rattle.points.proofs.points.Reads as points
@@ -32,6 +33,7 @@ use Rattle.catalogue_reader.proofs.reader as reader
 use Rattle.catalogue_reader.proofs.next as next
 use Rattle.catalogue_reader.proofs.advance as advance
 use Rattle.interface.proofs.fenyurka_judge.Reads as c-judge
+use Rattle.interface.proofs.fenyurka_quotients.Reads as c-quotients
 use Rattle.interface.proofs.fenyurka_t_value.Reads as c-t-value
 use Rattle.interface.proofs.fenyurka_first_page.Reads as c-first-page
 use Rattle.interface.proofs.fenyurka_page_after.Reads as c-page-after
@@ -64,6 +66,9 @@ both x y = ap₂ _and_ (same (x .0) (y .0)) (same (x .1) (y .1))
 
 pub judge-unique : Determined judge.Post (λ κs r e. r)
 judge-unique κs a r r′ e e′ = same
+
+pub test-quotients-unique : Determined test-quotients.Post (λ κs r e. r)
+test-quotients-unique κs a r r′ e e′ = same
 
 pub t-value-unique : Determined t-value.Post (λ κs r e. r)
 t-value-unique κs a r r′ e e′ = same
@@ -165,6 +170,9 @@ module _ (w : World) where
 
 pub c-judge-unique : Determined c-judge.Post (λ κs r e. r)
 c-judge-unique κs a r r′ e e′ = same
+
+pub c-quotients-unique : Determined c-quotients.Post (λ κs r e. r)
+c-quotients-unique κs a r r′ e e′ = same
 
 pub c-t-value-unique : Determined c-t-value.Post (λ κs r e. r)
 c-t-value-unique κs a r r′ e e′ = same

@@ -6,3 +6,4 @@ pub mod Level
 pub mod Tree
 pub mod Inverse
 pub mod Euclid
+pub mod Degrees

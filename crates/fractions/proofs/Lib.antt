@@ -1,2 +1,3 @@
 -- What the proofs of this crate share.
 pub mod FractionLaws
+pub mod DegreeLaws

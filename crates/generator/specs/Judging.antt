@@ -6,7 +6,7 @@ use lib.Dec.{eqb}
 use Rattle.definitions.specs.Answers.{unless}
 use Rattle.definitions.specs.Calls.{pairSituations, judging, judgement}
 use Rattle.definitions.specs.Number.{gcd}
-use Rattle.definitions.specs.Generator.{lawfulDegree, wellFormed, primitive, linearQuotients, coprimeStep, step, period}
+use Rattle.definitions.specs.Generator.{lawfulDegree, wellFormed, primitive, linearQuotients, quotientDegree, coprimeStep, step, period}
 use Rattle.definitions.specs.declared.Refusal.{Refusal}
 use Rattle.definitions.specs.declared.Refusal.the-variants.{WrongDegree, IllFormedPair, NotPrimitive, QuotientNotLinear, StepNotCoprime}
 use Rattle.definitions.specs.declared.Judgement.{Judgement}
@@ -66,9 +66,10 @@ module _ (m p q : ℕ) where
     unfolding pairSituations
     not-primitive t = later (ap not w) (here (ap not t))
 
-    pub not-linear : primitive m p ≡ true → linearQuotients p q ≡ false → Decides QuotientNotLinear (pairSituations m p q)
+    pub not-linear : primitive m p ≡ true → linearQuotients p q ≡ false → {k : ℕ} → k ≡ quotientDegree p q
+        → Decides (QuotientNotLinear k) (pairSituations m p q)
     unfolding pairSituations
-    not-linear t l = later (ap not w) (later (ap not t) (here (ap not l)))
+    not-linear t l e = rw e (later (ap not w) (later (ap not t) (here (ap not l))))
 
 module _ {m p q : ℕ} (f : Fit m p q) where
   pub not-coprime : coprimeStep m p q ≡ false → Decides StepNotCoprime (pairSituations m p q)

@@ -6,6 +6,7 @@ ghost use Rattle.generator.specs.Judging.{pairJudgement, pairVerdict, Ch
 use crate::common_divisor;
 use definitions::Judgement;
 use definitions::Refusal;
+use fractions::degrees;
 use fractions::quotients;
 use orders::primitive;
 use orders::step;
@@ -34,7 +35,7 @@ pub fn is_well_formed(m: u32, p: u32, q: u32) -> bool
     digits::degree_of(q) < m
 }
 
-// Document 01's refusal 3, 4 or 5, the tests in this order, so that the lowest number is given.
+// Refusal 3, 4 or 5, the tests in this order, so that the lowest number is given. K is computed only where it is told.
 fn check_polynomials(m: u32, p: u32, q: u32) -> Verdict
     requires { ⌜ LawfulDegree m ⌝ }
     ensures { λ r. ⌜ Checked m p q r ⌝ }
@@ -46,7 +47,8 @@ fn check_polynomials(m: u32, p: u32, q: u32) -> Verdict
         return Verdict::Refused(Refusal::NotPrimitive);
     }
     if !quotients::linear_quotients(p, q, digits::leading_term(m)) {
-        return Verdict::Refused(Refusal::QuotientNotLinear);
+        let degrees = degrees::quotient_degrees(p, q);
+        return Verdict::Refused(Refusal::QuotientNotLinear(degrees.quotient));
     }
     Verdict::Passed
 }

@@ -1,11 +1,12 @@
 // The public calls for C, as include/fenyurka.h declares them: structs go in and out by value, and only slices are behind pointers.
-// A result holds the refusal's number, 0 where there is none, and the values, 0 where there are none. A refusal writes into no slice.
+// A result holds the refusal's number, 0 where there is none, the K that refusal 5 carries, 0 for any other, and the values, 0 where there are none.
+// A refusal writes into no slice.
 ghost use mathlib.Core.Path.{_≡_};
-ghost use Rattle.definitions.specs.Answers.{judgementValues, uniformityValues, pageValues, pointsValues, openingValues, fileValues};
-ghost use Rattle.definitions.specs.Calls.{judgement, uniformity, pageAnswer, pageSlice, pointsAnswer, pointsSlice};
+ghost use Rattle.definitions.specs.Answers.{judgementValues, quotientTestValues, uniformityValues, pageValues, pointsValues, openingValues, fileValues};
+ghost use Rattle.definitions.specs.Calls.{judgement, quotientTest, uniformity, pageAnswer, pageSlice, pointsAnswer, pointsSlice};
 ghost use Rattle.definitions.specs.Catalogue.{opening};
 ghost use Rattle.definitions.specs.Writing.{fileAnswer, fileBuffer};
-ghost use Rattle.results.specs.Results.{judgementResult, tValueResult, pageResult, pointsResult};
+ghost use Rattle.results.specs.Results.{judgementResult, quotientsResult, tValueResult, pageResult, pointsResult};
 ghost use Rattle.catalogue_results.specs.Results.{catalogueResult, fileResult};
 ghost use Rattle.interface.specs.Requests.{pageOf, rowAtPlace};
 ghost use Rattle.interface.specs.Located.{located};
@@ -20,6 +21,7 @@ use definitions::Selection;
 use results::FenyurkaJudgement;
 use results::FenyurkaPage;
 use results::FenyurkaPoints;
+use results::FenyurkaQuotients;
 use results::FenyurkaTValue;
 
 // Which ranked list is meant: the degree and the top dimension.
@@ -46,6 +48,14 @@ pub extern "C" fn fenyurka_judge(degree: u32, p: u32, q: u32) -> FenyurkaJudgeme
     ensures { λ r. ⌜ r ≡ judgementResult (judgementValues (judgement degree p q)) ⌝ }
 {
     results::judgement(generator::judge(degree, p, q))
+}
+
+// How bad a pair's quotients are.
+#[no_mangle]
+pub extern "C" fn fenyurka_quotients(degree: u32, p: u32, q: u32) -> FenyurkaQuotients
+    ensures { λ r. ⌜ r ≡ quotientsResult (quotientTestValues (quotientTest degree p q)) ⌝ }
+{
+    results::quotients(quotient_test::test_quotients(degree, p, q))
 }
 
 // The t-value of a pair in one dimension.

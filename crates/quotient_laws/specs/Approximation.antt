@@ -13,15 +13,16 @@ use Rattle.polynomial_laws.specs.Sum.{⊕-zero, ⊕-sums}
 use Rattle.polynomial_laws.specs.Degree.{HasDegree, degree-is, degree-unique, degree-most, positive, add-degree}
 use Rattle.polynomial_laws.specs.Product.{zero-prod, one-prod, prod-⊕, ⊕-prod, prod-assoc, product-degree}
 use Rattle.polynomial_laws.specs.Division.{division}
+use Rattle.definitions.specs.Generator.{quotientDegree, commonDegree}
 use Rattle.fraction_laws.specs.Expansion.{euclid-ind}
-use Rattle.quotient_laws.specs.Largest.{largest, largest-zero, largest-more, commonDegree, commonDegree-zero, commonDegree-more}
-use Rattle.quotient_laws.specs.Largest.{Falling, falling-next, falling-degree, quotient-difference}
+use Rattle.fraction_laws.specs.Degrees.{quotientDegree-zero, quotientDegree-more, commonDegree-zero, commonDegree-more}
+use Rattle.quotient_laws.specs.Degrees.{Falling, falling-next, falling-degree, quotient-difference}
 
 -- ---- definitions
 
 -- K, or one more than the common factor's degree, whichever is larger.
 unfoldable pub loss : ℕ → ℕ → ℕ
-loss p q = max (largest p q) (suc (commonDegree p q))
+loss p q = max (quotientDegree p q) (suc (commonDegree p q))
 
 -- b is not 0 and has d digits at most, and b q + a p has c at most.
 pub record Near (p q d c : ℕ) : Type 0 where
@@ -35,11 +36,11 @@ pub record Near (p q d c : ℕ) : Type 0 where
 
 loss-zero : (p : ℕ) → loss p 0 ≡ suc (degree p)
 unfolding loss
-loss-zero p = omega (arith, largest-zero p, commonDegree-zero p)
+loss-zero p = omega (arith, quotientDegree-zero p, commonDegree-zero p)
 
 loss-more : (p q : ℕ) → 0 < q → loss p q ≡ max (degree (quot p q)) (loss q (rem p q))
 unfolding loss
-loss-more p q pos = omega (arith, largest-more p q pos, commonDegree-more p q pos)
+loss-more p q pos = omega (arith, quotientDegree-more p q pos, commonDegree-more p q pos)
 
 pub loss-some : (p q : ℕ) → 1 ≤ loss p q
 unfolding loss

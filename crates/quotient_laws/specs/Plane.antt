@@ -11,7 +11,7 @@ use native.Mathlib.Omega.{arith}
 use lib.ListN.{length}
 use lib.Pow.{pow-mono}
 use Rattle.definitions.specs.Polynomial.{_⊕_, degree, prod, power, quot, rem}
-use Rattle.definitions.specs.Generator.{linearQuotients}
+use Rattle.definitions.specs.Generator.{linearQuotients, quotientDegree, commonDegree}
 use Rattle.definitions.specs.Net.{tValue}
 use Rattle.number_laws.specs.Truth.{le-unless}
 use Rattle.polynomial_laws.specs.Sum.{⊕-sums}
@@ -28,7 +28,7 @@ use Rattle.net_laws.specs.Share.{shareRows, length-shareRows}
 use Rattle.net_laws.specs.Lightest.{Reach, reach-share, share-reach}
 use Rattle.net_laws.specs.Weight.{AllFree, Least, least-unique}
 use Rattle.net_laws.specs.TValue.{least-tValue, tValue-most}
-use Rattle.quotient_laws.specs.Largest.{largest, commonDegree, Falling, wellFormed-falling, largest-least, linear-largest}
+use Rattle.quotient_laws.specs.Degrees.{Falling, wellFormed-falling, quotientDegree-least, linear-degrees}
 use Rattle.quotient_laws.specs.Approximation.{loss, Near, loss-some, near-some, near-bound, nearest}
 use Rattle.quotient_laws.specs.Relations.{valueRows, free-rows, rows-free}
 
@@ -120,17 +120,17 @@ module _ {m p q : ℕ} (w : WellFormed m p q) where
       omega (arith, loss-most p q falls, tValue-most m p (w .degree-p) q 2)
 
   -- t(2) IS K - 1 OR THE COMMON FACTOR'S DEGREE, whichever is larger:
-  pub tValue-plane : tValue m p q 2 ≡ max (largest p q - 1) (commonDegree p q)
+  pub tValue-plane : tValue m p q 2 ≡ max (quotientDegree p q - 1) (commonDegree p q)
   unfolding loss
-  tValue-plane = omega (arith, loss-tValue, largest-least w)
+  tValue-plane = omega (arith, loss-tValue, quotientDegree-least w)
 
   -- K - 1 where there is no common factor,
-  pub tValue-largest : commonDegree p q ≡ 0 → tValue m p q 2 ≡ largest p q - 1
-  tValue-largest none = omega (arith, tValue-plane)
+  pub tValue-quotientDegree : commonDegree p q ≡ 0 → tValue m p q 2 ≡ quotientDegree p q - 1
+  tValue-quotientDegree none = omega (arith, tValue-plane)
 
   -- and 0 just where the quotients are linear.
   pub tValue-linear : (linearQuotients p q ≡ true) ↔ (tValue m p q 2 ≡ 0)
   tValue-linear = (
-    λ t. let h = linear-largest w .0 t in omega (arith, tValue-plane, h .0, h .1),
-    λ e. linear-largest w .1 (omega (arith, tValue-plane, largest-least w), omega (arith, tValue-plane)),
+    λ t. let h = linear-degrees w .0 t in omega (arith, tValue-plane, h .0, h .1),
+    λ e. linear-degrees w .1 (omega (arith, tValue-plane, quotientDegree-least w), omega (arith, tValue-plane)),
   )

@@ -2,6 +2,7 @@
 -- Assumes nothing.
 use mathlib.Core.Path.{_≡_, sym, _∙_}
 use mathlib.Core.Bool.{true}
+use native.Mathlib.Omega.{arith}
 use borrow.Author.Needs.{needs}
 use borrow.Author.Tests.{not-true, not-false}
 use Rattle.definitions.specs.Generator.{wellFormed, primitive}
@@ -43,11 +44,16 @@ linear-quotients-requires c κs =
     let lead = c .leading-term .ensures in
     (lawful-modulus (at .before .before .pre) (proper at .degree-p) lead, rw lead (proper at .smaller))
 
+-- ---- where some quotient is not linear
+quotient-degrees-requires : tie.Need-quotient-degrees-requires
+quotient-degrees-requires c κs = let pair = proper (behind (c .before .before .before)) in (omega arith, omega arith)
+
 quotient-not-linear : tie.Need-returns-3
 unfolding Checked
 quotient-not-linear c =
-    let at = c .before .before .before in
-    not-linear _ _ _ (well-formed (behind at)) (is-primitive at) (sym (c .before .linear-quotients .ensures) ∙ not-true _ (c .if3 .taken))
+    let at = c .before .before .before .before in
+    not-linear _ _ _ (well-formed (behind at)) (is-primitive at) (sym (c .before .before .linear-quotients .ensures) ∙ not-true _ (c .before .if3 .taken))
+    (c .quotient-degrees .ensures .0)
 
 passed : tie.Need-returns-4
 unfolding Checked
@@ -63,4 +69,4 @@ pub check-polynomials-spec : {M : Type 1} → statement M
 check-polynomials-spec =
     tie.close
     (tie.spec (λ c κs. search needs) ill-formed-pair is-primitive-requires p-not-primitive (λ c κs. search needs) linear-quotients-requires
-    quotient-not-linear passed)
+    quotient-degrees-requires quotient-not-linear passed)

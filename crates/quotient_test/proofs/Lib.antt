@@ -1,0 +1,2 @@
+-- What the proof of the quotient test rests on.
+pub mod Testing
