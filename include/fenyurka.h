@@ -86,8 +86,8 @@ typedef struct FenyurkaQuotients {
 
 /*
  * How bad the partial quotients of q/p are, as Euclid's algorithm on (p, q) finds them. For every well-formed pair, accepted by
- * fenyurka_judge or not. Refusal 5 of a pair is never given where the largest degree is 1 and there is no common factor. The t-value
- * in dimension 2 is the larger of quotient_degree - 1 and common_degree.
+ * fenyurka_judge or not. If p is primitive, fenyurka_judge gives refusal 5 exactly if quotient_degree is 2 or more. The t-value in
+ * dimension 2 is the larger of quotient_degree - 1 and common_degree.
  * Refusals: 1, 3.
  */
 FenyurkaQuotients fenyurka_quotients(uint32_t degree, uint32_t p, uint32_t q);
