@@ -28,6 +28,7 @@ use Rattle.definitions.specs.declared.Uniformity.the-variants.{Value, Undefined
 use Rattle.definitions.specs.declared.PageAnswer.the-variants.{NoPage}
 use Rattle.definitions.specs.declared.PointsAnswer.the-variants.{NotWritten}
 use Rattle.number_laws.specs.Bounds.{LawfulDegree, lawfulDegree-is}
+use Rattle.number_laws.specs.Truth.{truth-false}
 use Rattle.answer_laws.specs.Unless.{Decides, here, later, NoneApplies, passes, at-end, Outcome, is-refused, is-given, outcome, decides-none}
 use Rattle.answer_laws.specs.Unless.{unless-refused, unless-given, unless-both, told-given}
 use Rattle.polynomial_laws.specs.Degree.{positive}
@@ -35,10 +36,11 @@ use Rattle.fraction_laws.specs.WellFormed.{WellFormed, wellFormed-is}
 use Rattle.fraction_laws.specs.Degrees.{LargestDegree, quotientDegree-largest, largest-quotientDegree}
 use Rattle.order_laws.specs.Primitive.{primitive-is}
 use Rattle.quotient_laws.specs.Degrees.{CommonFactor, commonDegree-factor, factor-commonDegree, no-common, quotientDegree-most, quotientDegree-other}
-use Rattle.quotient_laws.specs.Degrees.{tree-degrees}
+use Rattle.quotient_laws.specs.Degrees.{linear-degrees, tree-degrees}
 use Rattle.quotient_laws.specs.Plane.{tValue-plane}
 use Rattle.demands.specs.Situations.{given}
-use Rattle.demands.specs.PairTable.{no-common-factor}
+use Rattle.demands.specs.PairTable.{Primitive, PairRefused, pair-not-well-formed, p-not-primitive, some-quotient-not-linear, step-not-coprime}
+use Rattle.demands.specs.PairTable.{no-common-factor, some-quotient}
 use Rattle.demands.specs.Demand1.{numberOf, higher-last}
 
 -- ---- what the test answers
@@ -185,6 +187,26 @@ bad-quotient m p q lawful w order fails =
     let o = primitive-is m p (omega (arith, lawful .low)) .0 order in
     let none = no-common p q (positive (w .degree-p)) .1 (no-common-factor m p q (lawful .low) w o) in
     quotientDegree-other w none fails
+
+-- 5 BY K: the table gives it just where the pair is well-formed, p is primitive and K is 2 at least.
+pub table-five : (m p q : ℕ) → LawfulDegree m → PairRefused m p q 5 ↔ (WellFormed m p q × Primitive m p × (2 ≤ quotientDegree p q))
+table-five m p q lawful = (λ (t : PairRefused m p q 5). to 5 t refl, from)
+  where
+    to : (n : ℕ) → PairRefused m p q n → n ≡ 5 → WellFormed m p q × Primitive m p × (2 ≤ quotientDegree p q)
+    to n (pair-not-well-formed h) e = absurd (omega arith)
+    to n (p-not-primitive w h) e = absurd (omega arith)
+    to n (some-quotient-not-linear w o some) e =
+        let fails = not-true _ (some-quotient m p q (lawful .low) w o .1 some) in
+        (w, o, bad-quotient m p q lawful w (primitive-is m p (omega (arith, lawful .low)) .1 o) fails)
+    to n (step-not-coprime w o every s shared) e = absurd (omega arith)
+
+    from : WellFormed m p q × Primitive m p × (2 ≤ quotientDegree p q) → PairRefused m p q 5
+    from h =
+        let w = h .0 in
+        let o = h .1 in
+        let never : linearQuotients p q ≡ true → ⊥ = λ t. omega (arith, h .2, linear-degrees w .0 t .0) in
+        let fails : not (linearQuotients p q) ≡ true = ap not (truth-false _ never) in
+        some-quotient-not-linear w o (some-quotient m p q (lawful .low) w o .0 fails)
 
 module _ (m p q : ℕ) (lawful : LawfulDegree m) (rest : List Situation) (higher : (r : Refusal) → Decides r rest → 6 < refusalNumber r) where
   five-decides : {r : Refusal} → Decides r (pairSituations m p q ++ rest) → refusalNumber r ≡ 5 → Five m p q r
