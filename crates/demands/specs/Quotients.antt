@@ -23,7 +23,7 @@ use Rattle.definitions.specs.declared.Refusal.the-variants.{ShortSlice, BeyondP
 use Rattle.definitions.specs.declared.Selection.{Selection}
 use Rattle.definitions.specs.declared.Position.the-variants.{Start, After}
 use Rattle.definitions.specs.declared.Judgement.the-variants.{Rejected}
-use Rattle.definitions.specs.declared.QuotientTest.the-variants.{Degrees, Untested}
+use Rattle.definitions.specs.declared.QuotientTest.the-variants.{Degrees}
 use Rattle.definitions.specs.declared.Uniformity.the-variants.{Value, Undefined}
 use Rattle.definitions.specs.declared.PageAnswer.the-variants.{NoPage}
 use Rattle.definitions.specs.declared.PointsAnswer.the-variants.{NotWritten}
@@ -38,6 +38,7 @@ use Rattle.order_laws.specs.Primitive.{primitive-is}
 use Rattle.quotient_laws.specs.Degrees.{CommonFactor, commonDegree-factor, factor-commonDegree, no-common, quotientDegree-most, quotientDegree-other}
 use Rattle.quotient_laws.specs.Degrees.{linear-degrees, tree-degrees}
 use Rattle.quotient_laws.specs.Plane.{tValue-plane}
+use Rattle.quotient_test.specs.Testing.{tested}
 use Rattle.demands.specs.Situations.{given}
 use Rattle.demands.specs.PairTable.{Primitive, PairRefused, pair-not-well-formed, p-not-primitive, some-quotient-not-linear, step-not-coprime}
 use Rattle.demands.specs.PairTable.{no-common-factor, some-quotient}
@@ -53,9 +54,8 @@ pub record Tested (m p q k c : ℕ) : Type 0 where
   pub common : CommonFactor p q c
 
 module _ (m p q : ℕ) where
-  pub testing-passes : LawfulDegree m → WellFormed m p q → NoneApplies (testing m p q)
-  unfolding testing
-  testing-passes lawful w = passes (ap not (lawfulDegree-is m .1 lawful)) (passes (ap not (wellFormed-is m p q .1 w)) at-end)
+  values-tested : LawfulDegree m → WellFormed m p q → quotientTest m p q ≡ Degrees (quotientDegree p q) (commonDegree p q)
+  values-tested lawful w = tested m p q (lawfulDegree-is m .1 lawful) (wellFormed-is m p q .1 w)
 
   passes-testing : NoneApplies (testing m p q) → LawfulDegree m × WellFormed m p q
   unfolding testing
@@ -85,7 +85,7 @@ module _ (m p q : ℕ) where
           let w = t .well-formed in
           let k-is = largest-quotientDegree p q (w .nonzero) k (t .largest) in
           let c-is = factor-commonDegree p q c (positive (w .degree-p)) (t .common) in
-          unless-given Untested (Degrees (quotientDegree p q) (commonDegree p q)) (testing-passes (t .lawful) w) ∙ rw (k-is, c-is)
+          values-tested (t .lawful) w ∙ rw (k-is, c-is)
 
 -- ---- the tree, and dimension 2
 
@@ -99,10 +99,6 @@ module _ (m p q : ℕ) where
         factor-commonDegree p q c (positive (w .degree-p)) (t .common),
       )
 
-  values-tested : LawfulDegree m → WellFormed m p q → quotientTest m p q ≡ Degrees (quotientDegree p q) (commonDegree p q)
-  unfolding quotientTest
-  values-tested lawful w = unless-given Untested (Degrees (quotientDegree p q) (commonDegree p q)) (testing-passes m p q lawful w)
-
   -- OF THE TREE is a pair just where the test answers 1 and 0.
   pub tree-tested : LawfulDegree m → (quotientTest m p q ≡ Degrees 1 0) ↔ List·Memᴰ (record { p = p; q = q }) (tree m)
   tree-tested lawful =
@@ -112,7 +108,7 @@ module _ (m p q : ℕ) where
             tree-degrees m p q low .1 (t .0 .1, t .1, t .2),
         λ (i : List·Memᴰ (record { p = p; q = q }) (tree m)).
             let t = tree-degrees m p q low .0 i in
-            values-tested lawful (t .0) ∙ rw (t .1, t .2),
+            values-tested m p q lawful (t .0) ∙ rw (t .1, t .2),
       )
 
   -- t(2) is K - 1 or the common factor's degree, whichever is larger,

@@ -8,7 +8,7 @@ use borrow.Author.Tests.{not-true, not-false}
 use Rattle.definitions.specs.Generator.{lawfulDegree, wellFormed}
 use Rattle.number_laws.specs.Bounds.{lawfulDegree-is}
 use Rattle.fraction_laws.specs.WellFormed.{wellFormed-is}
-use Rattle.quotient_test.proofs.Testing.{wrong-degree, ill-formed, tested}
+use Rattle.quotient_test.specs.Testing.{wrong-degree, ill-formed, tested}
 use Rattle.quotient_test.proofs.test_quotients.Statement.{statement}
 use Rattle.quotient_test.proofs.test_quotients.Tie as tie
 

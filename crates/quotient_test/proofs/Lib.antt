@@ -1,2 +1,0 @@
--- What the proof of the quotient test rests on.
-pub mod Testing
