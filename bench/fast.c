@@ -6,7 +6,7 @@
 
 #include <string.h>
 
-enum { MOST = 16 };
+enum { MOST = 16, MOST_FLOOR = 32 };
 
 /* The prime divisors of 2^m - 1. */
 static const uint16_t divisors[MOST + 1][4] = {
@@ -124,12 +124,25 @@ static uint32_t step_of(uint32_t p, uint32_t q)
     return e;
 }
 
+/* No power of x below the floor is q, which has the degree m - 1, as its quotients are linear. */
+static int reaches_floor(uint32_t m, uint32_t p, uint32_t q, uint32_t floor)
+{
+    uint32_t a = 1u << (m - 1);
+    for (uint32_t e = m - 1; e < floor; e++) {
+        if (a == q)
+            return 0;
+        a = shift(p, a);
+    }
+    return 1;
+}
+
 static int well_formed(uint32_t m, uint32_t p, uint32_t q)
 {
     return p >> m == 1 && q != 0 && q >> m == 0;
 }
 
-static uint32_t refusal_of(uint32_t m, uint32_t p, uint32_t q)
+/* The refusals 3 to 6 and 11. */
+static uint32_t refusal_of(uint32_t m, uint32_t floor, uint32_t p, uint32_t q)
 {
     if (!well_formed(m, p, q))
         return 3;
@@ -137,7 +150,9 @@ static uint32_t refusal_of(uint32_t m, uint32_t p, uint32_t q)
         return 4;
     if (!linear_quotients(p, q))
         return 5;
-    return of_full_order(m, p, q) ? 0 : 6;
+    if (!of_full_order(m, p, q))
+        return 6;
+    return reaches_floor(m, p, q, floor) ? 0 : 11;
 }
 
 /* What a refusal carries beside its number. */
@@ -146,14 +161,19 @@ static uint32_t degree_told(uint32_t refusal, uint32_t p, uint32_t q)
     return refusal == 5 ? quotients_of(p, q).quotient_degree : 0;
 }
 
-FenyurkaJudgement fenyurka_judge(uint32_t degree, uint32_t p, uint32_t q)
+FenyurkaJudgement fenyurka_judge(uint32_t degree, uint32_t floor, uint32_t p, uint32_t q)
 {
     if (degree - 2 > MOST - 2)
         return (FenyurkaJudgement){.refusal = 1};
-    uint32_t refusal = refusal_of(degree, p, q);
+    if (floor > MOST_FLOOR)
+        return (FenyurkaJudgement){.refusal = 12};
+    uint32_t refusal = refusal_of(degree, 0, p, q);
     if (refusal != 0)
         return (FenyurkaJudgement){.refusal = refusal, .quotient_degree = degree_told(refusal, p, q)};
-    return (FenyurkaJudgement){.step = step_of(p, q)};
+    uint32_t step = step_of(p, q);
+    if (step < floor)
+        return (FenyurkaJudgement){.refusal = 11};
+    return (FenyurkaJudgement){.step = step};
 }
 
 FenyurkaQuotients fenyurka_quotients(uint32_t degree, uint32_t p, uint32_t q)
@@ -250,7 +270,7 @@ FenyurkaTValue fenyurka_t_value(uint32_t degree, uint32_t p, uint32_t q, uint32_
 /* ---- pages */
 
 struct page {
-    uint32_t m, top, after, position[9], *rows, more;
+    uint32_t m, top, floor, after, position[9], *rows, more;
     size_t count, room;
 };
 
@@ -284,15 +304,15 @@ static void leaf(struct page *page, uint32_t p, uint32_t q)
     struct search s;
     uint32_t row[9] = {p, q};
     const uint32_t *worst = page->rows + (page->room - 1) * (page->top + 1);
-    if (!primitive(page->m, p) || !of_full_order(page->m, p, q))
+    if (!primitive(page->m, p) || !of_full_order(page->m, p, q) || !reaches_floor(page->m, p, q, page->floor))
         return;
     begin(&s, page->m, p, q, 2);
     next_t(&s);
     for (uint32_t d = 3; d <= page->top; d++) {
-        int floor;
+        int side;
         row[d] = next_t(&s);
-        floor = page->after ? compare(row, page->position, d, page->top) : 1;
-        if (floor < 0 || (floor == 0 && d == page->top))
+        side = page->after ? compare(row, page->position, d, page->top) : 1;
+        if (side < 0 || (side == 0 && d == page->top))
             return;
         if (page->count == page->room && compare(row, worst, d, page->top) > 0) {
             page->more = 1;
@@ -327,12 +347,12 @@ static FenyurkaPage fill(struct page *page, uint32_t *rows, size_t length)
 
 static uint32_t list_refusal(FenyurkaList list)
 {
-    return list.degree - 2 > MOST - 2 ? 1 : list.top - 3 > 5 ? 2 : 0;
+    return list.degree - 2 > MOST - 2 ? 1 : list.top - 3 > 5 ? 2 : list.floor > MOST_FLOOR ? 12 : 0;
 }
 
 FenyurkaPage fenyurka_first_page(FenyurkaList list, uint32_t *rows, size_t rows_length)
 {
-    struct page page = {.m = list.degree, .top = list.top};
+    struct page page = {.m = list.degree, .top = list.top, .floor = list.floor};
     uint32_t refusal = list_refusal(list);
     if (refusal != 0)
         return (FenyurkaPage){.refusal = refusal};
@@ -341,11 +361,11 @@ FenyurkaPage fenyurka_first_page(FenyurkaList list, uint32_t *rows, size_t rows_
 
 FenyurkaPage fenyurka_page_after(FenyurkaList list, uint32_t p, uint32_t q, uint32_t *rows, size_t rows_length)
 {
-    struct page page = {.m = list.degree, .top = list.top, .after = 1, .position = {p, q}};
+    struct page page = {.m = list.degree, .top = list.top, .floor = list.floor, .after = 1, .position = {p, q}};
     struct search s;
     uint32_t refusal = list_refusal(list);
     if (refusal == 0)
-        refusal = refusal_of(list.degree, p, q);
+        refusal = refusal_of(list.degree, list.floor, p, q);
     if (refusal != 0)
         return (FenyurkaPage){.refusal = refusal, .quotient_degree = degree_told(refusal, p, q)};
     begin(&s, list.degree, p, q, 2);
@@ -357,25 +377,28 @@ FenyurkaPage fenyurka_page_after(FenyurkaList list, uint32_t p, uint32_t q, uint
 
 /* ---- counting a list */
 
-static uint32_t count_below(uint32_t m, uint32_t left, uint32_t f1, uint32_t f0)
+static uint32_t count_below(uint32_t m, uint32_t floor, uint32_t left, uint32_t f1, uint32_t f0)
 {
     if (left == 0)
-        return primitive(m, f1) && of_full_order(m, f1, f0);
-    return count_below(m, left - 1, f1 << 1 ^ f0, f1) + count_below(m, left - 1, f1 << 1 ^ f1 ^ f0, f1);
+        return primitive(m, f1) && of_full_order(m, f1, f0) && reaches_floor(m, f1, f0, floor);
+    return count_below(m, floor, left - 1, f1 << 1 ^ f0, f1) + count_below(m, floor, left - 1, f1 << 1 ^ f1 ^ f0, f1);
 }
 
-uint32_t count_pairs(uint32_t degree)
+uint32_t count_pairs(uint32_t degree, uint32_t floor)
 {
-    return count_below(degree, degree, 1, 0);
+    return count_below(degree, floor, degree, 1, 0);
 }
 
 /* ---- points */
 
-FenyurkaPoints fenyurka_points(uint32_t degree, uint32_t p, uint32_t q, uint32_t first, uint32_t *words, size_t words_length)
+FenyurkaPoints fenyurka_points(uint32_t degree, uint32_t floor, uint32_t p, uint32_t q, uint32_t first, uint32_t *words,
+                               size_t words_length)
 {
     if (degree - 2 > MOST - 2)
         return (FenyurkaPoints){.refusal = 1};
-    uint32_t refusal = refusal_of(degree, p, q), period = (1u << degree) - 1;
+    if (floor > MOST_FLOOR)
+        return (FenyurkaPoints){.refusal = 12};
+    uint32_t refusal = refusal_of(degree, floor, p, q), period = (1u << degree) - 1;
     if (refusal != 0)
         return (FenyurkaPoints){.refusal = refusal, .quotient_degree = degree_told(refusal, p, q)};
     if (first >= period)

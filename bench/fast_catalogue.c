@@ -3,7 +3,7 @@
 #include "fast.h"
 #include "fenyurka.h"
 
-enum { MOST = 16, MOST_ENTRIES = 15, MOST_ROWS = 2882 };
+enum { MOST = 16, MOST_FLOOR = 32, MOST_ENTRIES = 15, MOST_ROWS = 2882 };
 
 static uint32_t pair_at(const uint8_t *bytes)
 {
@@ -79,7 +79,7 @@ FenyurkaRow fenyurka_row(FenyurkaList list, const uint8_t *body, size_t length, 
 
 /* ---- writing */
 
-static uint32_t request_refusal(const uint32_t *entries, size_t length)
+static uint32_t request_refusal(uint32_t floor, const uint32_t *entries, size_t length)
 {
     uint32_t wrong_top = length % 2, falling = 0, last = 0;
     for (size_t i = 0; i < length; i += 2) {
@@ -89,7 +89,7 @@ static uint32_t request_refusal(const uint32_t *entries, size_t length)
         falling |= entries[i] <= last;
         last = entries[i];
     }
-    return wrong_top ? 2 : falling ? 13 : 0;
+    return wrong_top ? 2 : floor > MOST_FLOOR ? 12 : falling ? 13 : 0;
 }
 
 static uint8_t *put_pair(uint8_t *bytes, uint32_t number)
@@ -111,14 +111,14 @@ static uint8_t *put_rows(uint8_t *bytes, const uint32_t *row, uint32_t rows, uin
     return bytes;
 }
 
-FenyurkaFile fenyurka_write(const uint32_t *entries, size_t entries_length, uint8_t *file, size_t file_length)
+FenyurkaFile fenyurka_write(uint32_t floor, const uint32_t *entries, size_t entries_length, uint8_t *file, size_t file_length)
 {
-    uint32_t rows[MOST_ROWS * FENYURKA_LONGEST_ROW], counts[MOST_ENTRIES], refusal = request_refusal(entries, entries_length);
+    uint32_t rows[MOST_ROWS * FENYURKA_LONGEST_ROW], counts[MOST_ENTRIES], refusal = request_refusal(floor, entries, entries_length);
     if (refusal != 0)
         return (FenyurkaFile){.refusal = refusal};
     size_t n = entries_length / 2, length = 1 + 8 * n;
     for (size_t i = 0; i < n; i++) {
-        counts[i] = count_pairs(entries[2 * i]);
+        counts[i] = count_pairs(entries[2 * i], floor);
         length += counts[i] * (entries[2 * i + 1] + 4);
     }
     if (length > file_length)
@@ -126,7 +126,7 @@ FenyurkaFile fenyurka_write(const uint32_t *entries, size_t entries_length, uint
     uint8_t *entry = file + 1, *body = entry + 8 * n;
     file[0] = (uint8_t)n;
     for (size_t i = 0; i < n; i++) {
-        FenyurkaList list = {.degree = entries[2 * i], .top = entries[2 * i + 1]};
+        FenyurkaList list = {.degree = entries[2 * i], .top = entries[2 * i + 1], .floor = floor};
         uint32_t offset = (uint32_t)(body - file);
         *entry++ = (uint8_t)list.degree;
         *entry++ = (uint8_t)list.top;

@@ -1,5 +1,5 @@
-/* What is measured: each call of the header between two marks that the counter sees, for degrees 8, 10 .. 16. Prints a line for each
-   count: degree, how many units of work the count is to be divided by, what was measured. */
+/* What is measured: each call of the header between two marks that the counter sees, for degrees 8, 10 .. 16, at floor 0 where no
+   other is named. Prints a line for each count: degree, how many units of work the count is to be divided by, what was measured. */
 #include "fenyurka.h"
 
 /* Moves all code by so many bytes; see bench/run. */
@@ -11,11 +11,12 @@ MOVED_BY(PLACE);
 #include <stdlib.h>
 #include <unistd.h>
 
-enum { TOP = 8, WIDTH = TOP + 1, MOST_ROWS = 3000, SAMPLE = 100, PERIOD = 65535 };
+enum { TOP = 8, WIDTH = TOP + 1, STEP = 2, FLOOR = 32, MOST_ROWS = 3000, SAMPLE = 100, PERIOD = 65535 };
 
 static uint32_t degree, list[MOST_ROWS * WIDTH], room[PERIOD + 1];
 static uint8_t file[FENYURKA_LONGEST_FILE];
-static size_t rows, length;
+/* The rows of the list, those of them that the floor leaves, and the bytes in the file. */
+static size_t rows, left, length;
 static volatile uint32_t sink;
 
 static void mark(void)
@@ -75,21 +76,53 @@ static void pages(void)
     measured("page: 50 rows from the middle, T = 8", 1);
 }
 
+static void pages_at_floor(void)
+{
+    FenyurkaList asked = {.degree = degree, .top = TOP, .floor = FLOOR};
+    left = 0;
+    for (size_t k = 0; k < rows; k++)
+        left += list[k * WIDTH + STEP] >= FLOOR;
+    mark();
+    FenyurkaPage page = fenyurka_first_page(asked, room, MOST_ROWS * WIDTH);
+    if (page.refusal != 0 || page.more || page.count != left)
+        wrong("whole list, floor 32");
+    measured("page: whole list, T = 8, floor 32", 1);
+    mark();
+    if (fenyurka_first_page(asked, room, 50 * WIDTH).refusal != 0)
+        wrong("first page, floor 32");
+    measured("page: first of 50 rows, T = 8, floor 32", 1);
+    asked.top = 5;
+    mark();
+    if (fenyurka_first_page(asked, room, 50 * 6).refusal != 0)
+        wrong("first page, floor 32");
+    measured("page: first of 50 rows, T = 5, floor 32", 1);
+}
+
 static void judging(void)
 {
     uint32_t p, q, seed = 1;
-    size_t n = rows < SAMPLE ? rows : SAMPLE;
+    size_t n = rows < SAMPLE ? rows : SAMPLE, reaching = 0;
     mark();
     for (size_t k = 0; k < n; k++) {
-        FenyurkaJudgement judgement = fenyurka_judge(degree, sample(k)[0], sample(k)[1]);
-        if (judgement.refusal != 0 || judgement.step != sample(k)[2])
+        FenyurkaJudgement judgement = fenyurka_judge(degree, 0, sample(k)[0], sample(k)[1]);
+        if (judgement.refusal != 0 || judgement.step != sample(k)[STEP])
             wrong("judging");
     }
     measured("judging an accepted pair", n);
     mark();
+    for (size_t k = 0; k < n; k++) {
+        if (sample(k)[STEP] < FLOOR)
+            continue;
+        reaching++;
+        FenyurkaJudgement judgement = fenyurka_judge(degree, FLOOR, sample(k)[0], sample(k)[1]);
+        if (judgement.refusal != 0 || judgement.step != sample(k)[STEP])
+            wrong("judging, floor 32");
+    }
+    measured("judging an accepted pair, floor 32", reaching);
+    mark();
     for (int k = 0; k < 1000; k++) {
         draw(&seed, &p, &q);
-        sink = fenyurka_judge(degree, p, q).refusal;
+        sink = fenyurka_judge(degree, 0, p, q).refusal;
     }
     measured("judging any pair", 1000);
 }
@@ -105,11 +138,11 @@ static void refusals(void)
         ps[k] = sample(k)[0];
         do
             draw(&seed, &p, &qs[k]);
-        while (fenyurka_judge(degree, ps[k], qs[k]).refusal != 5);
+        while (fenyurka_judge(degree, 0, ps[k], qs[k]).refusal != 5);
     }
     mark();
     for (size_t k = 0; k < n; k++)
-        sink = fenyurka_judge(degree, ps[k], qs[k]).refusal;
+        sink = fenyurka_judge(degree, 0, ps[k], qs[k]).refusal;
     measured("judging a pair refused 5", n);
     mark();
     for (size_t k = 0; k < n; k++)
@@ -117,7 +150,7 @@ static void refusals(void)
     measured("page: after a pair refused 5", n);
     mark();
     for (size_t k = 0; k < n; k++)
-        sink = fenyurka_points(degree, ps[k], qs[k], 0, room, 1).refusal;
+        sink = fenyurka_points(degree, 0, ps[k], qs[k], 0, room, 1).refusal;
     measured("points: of a pair refused 5", n);
 }
 
@@ -153,23 +186,24 @@ static void t_values(void)
     measured("t(8) of any pair", SAMPLE);
 }
 
-static void points(void)
+/* Of the list's first pair, whose step is at least the floor in these degrees. */
+static void points(uint32_t floor)
 {
     size_t period = ((size_t)1 << degree) - 1;
     mark();
-    FenyurkaPoints words = fenyurka_points(degree, list[0], list[1], 0, room, PERIOD + 1);
+    FenyurkaPoints words = fenyurka_points(degree, floor, list[0], list[1], 0, room, PERIOD + 1);
     if (words.refusal != 0 || words.count != period)
         wrong("points");
-    measured("points: a word of the whole period", period);
+    measured(floor == 0 ? "points: a word of the whole period" : "points: a word of the whole period, floor 32", period);
     mark();
-    words = fenyurka_points(degree, list[0], list[1], (uint32_t)period / 2, room, 1);
+    words = fenyurka_points(degree, floor, list[0], list[1], (uint32_t)period / 2, room, 1);
     if (words.refusal != 0 || words.count != 1)
         wrong("points");
-    measured("points: one word amid the period", 1);
+    measured(floor == 0 ? "points: one word amid the period" : "points: one word amid the period, floor 32", 1);
 }
 
 /* Leaves a catalogue of the degrees first .. last in the file. */
-static void write_degrees(uint32_t first, uint32_t last)
+static void write_degrees(uint32_t floor, uint32_t first, uint32_t last)
 {
     uint32_t entries[30];
     size_t n = 0;
@@ -177,7 +211,7 @@ static void write_degrees(uint32_t first, uint32_t last)
         entries[n++] = m;
         entries[n++] = TOP;
     }
-    FenyurkaFile written = fenyurka_write(entries, n, file, sizeof file);
+    FenyurkaFile written = fenyurka_write(floor, entries, n, file, sizeof file);
     if (written.refusal != 0)
         wrong("writing");
     length = written.length;
@@ -187,14 +221,19 @@ static void write_degrees(uint32_t first, uint32_t last)
 static void writing(void)
 {
     mark();
-    write_degrees(degree, degree);
+    write_degrees(0, degree, degree);
     measured("writing: this degree alone, T = 8", 1);
     mark();
-    write_degrees(2, degree);
+    write_degrees(FLOOR, degree, degree);
+    measured("writing: this degree alone, T = 8, floor 32", 1);
+    if (length != 9 + left * (TOP + 4))
+        wrong("length, floor 32");
+    mark();
+    write_degrees(0, 2, degree);
     measured("writing: degrees 2 to this one, T = 8", 1);
     mark();
     for (uint32_t m = 2; m <= degree; m++)
-        write_degrees(m, m);
+        write_degrees(0, m, m);
     measured("writing: the same, a file for each", 1);
     if (length != 9 + rows * (TOP + 4))
         wrong("length");
@@ -229,11 +268,13 @@ int main(void)
 {
     for (degree = 8; degree <= 16; degree += 2) {
         pages();
+        pages_at_floor();
         judging();
         refusals();
         quotients();
         t_values();
-        points();
+        points(0);
+        points(FLOOR);
         writing();
         catalogue();
     }

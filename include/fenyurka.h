@@ -9,9 +9,13 @@
  * Polynomials are numbers: bit i is the coefficient of x^i, so 11 is x^3 + x + 1. A generator is a pair (p, q) with p of degree
  * m (2 to 16) and 1 <= q < 2^m. You need not check numbers before a call: any 32-bit value is allowed for any number.
  *
- * Results. Every function returns a struct by value. Its field `refusal` is 0, or the number of a refusal (enum fenyurka_refusal);
- * where several refusals apply it is the lowest. All other fields are 0 when the call is refused, with one exception: refusal 5 comes
- * with `quotient_degree`, which says how bad the quotients of the pair are. fenyurka_row has no refusals.
+ * Floor. With a step below 32 neighbouring words share digits. Judging, lists, points and files therefore take a floor, 0 to 32, and
+ * accept only pairs whose step is at least the floor: 32 leaves all such steps out, 0 and 1 leave out none.
+ *
+ * Results. Every function returns a struct by value. Its field `refusal` is 0, or the number of a refusal (enum fenyurka_refusal).
+ * Each function lists its refusals in the order in which they are tested, and the first that applies is given. All other fields are 0
+ * when the call is refused, with one exception: refusal 5 comes with `quotient_degree`, which says how bad the quotients of the pair
+ * are. fenyurka_row has no refusals.
  *
  * Buffers. A buffer is two parameters, a pointer and a length in elements. A refused call writes nothing; any other call writes
  * only what its comment says, from the front of the buffer, and leaves the elements behind that unchanged. The caller must pass
@@ -19,8 +23,8 @@
  *   - a non-NULL pointer, also for length 0 (nothing is read or written then);
  *   - a writable buffer that overlaps no other buffer of the call.
  *
- * Initialise FenyurkaList by field names: FenyurkaList list = {.degree = 10, .top = 5}. Later versions may add fields to structs;
- * programs written in this way then have to be recompiled, and not changed.
+ * Initialise FenyurkaList by field names: FenyurkaList list = {.degree = 10, .top = 5, .floor = 32}. A floor that is not named is 0.
+ * Later versions may add fields to structs; programs written in this way then have to be recompiled, and not changed.
  *
  * No function allocates memory, keeps a pointer, prints or has state, so calls with different buffers may run in parallel.
  * fenyurka_write needs less than 128 KB of stack, since it keeps a whole list there: mind this in a thread with a small stack. Any
@@ -50,6 +54,8 @@ enum fenyurka_refusal {
     FENYURKA_BEYOND_PERIOD = 8,        /* the first index is above 2^m - 2 */
     FENYURKA_ILL_FORMED_CATALOGUE = 9, /* the bytes are not a catalogue */
     FENYURKA_DEGREE_MISSING = 10,      /* the catalogue has no such degree */
+    FENYURKA_STEP_BELOW_FLOOR = 11,    /* the step is below the floor */
+    FENYURKA_WRONG_FLOOR = 12,         /* the floor is above 32 */
     FENYURKA_NOT_ASCENDING = 13,       /* the degrees to be written do not strictly ascend */
     FENYURKA_FILE_TOO_LONG = 14        /* the file would be longer than the buffer */
 };
@@ -57,13 +63,14 @@ enum fenyurka_refusal {
 /* The most numbers that a row has: p, q, the step, t(3) .. t(8). */
 #define FENYURKA_LONGEST_ROW 9
 
-/* The most bytes that a file of fenyurka_write has: all degrees, each with T = 8 (compared by tests/c, not proved). */
+/* The most bytes that a file of fenyurka_write has: all degrees, each with T = 8, floor 0 (compared by tests/c, not proved). */
 #define FENYURKA_LONGEST_FILE 92041
 
 /* Which ranked list is meant. */
 typedef struct FenyurkaList {
     uint32_t degree; /* 2 to 16 */
     uint32_t top;    /* the top dimension T, 3 to 8 */
+    uint32_t floor;  /* the smallest step that a pair of the list may have, 0 to 32 */
 } FenyurkaList;
 
 typedef struct FenyurkaJudgement {
@@ -73,10 +80,10 @@ typedef struct FenyurkaJudgement {
 } FenyurkaJudgement;
 
 /*
- * Judges the pair (p, q) of this degree.
- * Refusals: 1, 3, 4, 5, 6.
+ * Judges the pair (p, q) of this degree, whose step must be at least the floor.
+ * Refusals: 1, 12, 3, 4, 5, 6, 11.
  */
-FenyurkaJudgement fenyurka_judge(uint32_t degree, uint32_t p, uint32_t q);
+FenyurkaJudgement fenyurka_judge(uint32_t degree, uint32_t floor, uint32_t p, uint32_t q);
 
 typedef struct FenyurkaQuotients {
     uint32_t refusal;
@@ -86,8 +93,8 @@ typedef struct FenyurkaQuotients {
 
 /*
  * How bad the partial quotients of q/p are, as Euclid's algorithm on (p, q) finds them. For every well-formed pair, accepted by
- * fenyurka_judge or not. If p is primitive, fenyurka_judge gives refusal 5 exactly if quotient_degree is 2 or more. The t-value in
- * dimension 2 is the larger of quotient_degree - 1 and common_degree.
+ * fenyurka_judge or not. If p is primitive, fenyurka_judge with a floor of 0 to 32 gives refusal 5 exactly if quotient_degree is 2 or
+ * more. The t-value in dimension 2 is the larger of quotient_degree - 1 and common_degree.
  * Refusals: 1, 3.
  */
 FenyurkaQuotients fenyurka_quotients(uint32_t degree, uint32_t p, uint32_t q);
@@ -113,18 +120,20 @@ typedef struct FenyurkaPage {
 } FenyurkaPage;
 
 /*
- * The first page of a ranked list. The list has all accepted pairs of the degree, ascending by t(3), then t(4), up to t(T), then
- * by p, then by q. A row is T + 1 numbers: p, q, the step, t(3) .. t(T). As many rows are written as fit into the buffer and exist.
- * Each page costs one search over all pairs of the degree, however many rows are written: with T = 8 and 50 rows 2.2 million
+ * The first page of a ranked list. The list has all pairs of the degree that fenyurka_judge accepts at the list's floor, ascending by
+ * t(3), then t(4), up to t(T), then by p, then by q. A row is T + 1 numbers: p, q, the step, t(3) .. t(T). As many rows are written as
+ * fit into the buffer and exist.
+ * Each page costs one search over all pairs of the degree, however many rows are written: with T = 8, floor 0 and 50 rows 2.2 million
  * instructions for degree 10 and 314 million for degree 16 (docs/SPEED.md). If you need the whole list, pass a buffer that holds it.
- * Refusals: 1, 2, 7.
+ * Refusals: 1, 2, 12, 7.
  */
 FenyurkaPage fenyurka_first_page(FenyurkaList list, uint32_t *rows, size_t rows_length);
 
 /*
- * The page after the pair (p, q), which may be any accepted pair of the degree: the last one of the page before, also if that
- * page had another length or another T, or a pair that was on no page. Costs as much as the first page.
- * Refusals: 1, 2, 3, 4, 5, 6, 7.
+ * The page after the pair (p, q), which may be any pair of the degree that fenyurka_judge accepts at the list's floor: the last one of
+ * the page before, also if that page had another length or another T, or a pair that was on no page. Keep the floor while you walk
+ * through a list: with another one the rows are those of another list. Costs as much as the first page.
+ * Refusals: 1, 2, 12, 3, 4, 5, 6, 11, 7.
  */
 FenyurkaPage fenyurka_page_after(FenyurkaList list, uint32_t p, uint32_t q, uint32_t *rows, size_t rows_length);
 
@@ -135,12 +144,13 @@ typedef struct FenyurkaPoints {
 } FenyurkaPoints;
 
 /*
- * The output of an accepted pair: X_0 = 1, X_i = q X_(i-1) mod p, and word i holds the first 32 digits of X_i / p in powers of
- * 1/x, the first digit as the highest bit. The period is 2^m - 1 words. Words first, first + 1, .. are written until the buffer
- * or the period ends; nothing wraps round.
- * Refusals: 1, 3, 4, 5, 6, 8 (also if the buffer is empty).
+ * The output of a pair that fenyurka_judge accepts at this floor: X_0 = 1, X_i = q X_(i-1) mod p, and word i holds the first 32
+ * digits of X_i / p in powers of 1/x, the first digit as the highest bit. The period is 2^m - 1 words. Words first, first + 1, .. are
+ * written until the buffer or the period ends; nothing wraps round. The floor decides only whether the pair is accepted.
+ * Refusals: 1, 12, 3, 4, 5, 6, 11, 8 (also if the buffer is empty).
  */
-FenyurkaPoints fenyurka_points(uint32_t degree, uint32_t p, uint32_t q, uint32_t first, uint32_t *words, size_t words_length);
+FenyurkaPoints fenyurka_points(uint32_t degree, uint32_t floor, uint32_t p, uint32_t q, uint32_t first, uint32_t *words,
+                               size_t words_length);
 
 typedef struct FenyurkaCatalogue {
     uint32_t refusal;
@@ -176,7 +186,7 @@ typedef struct FenyurkaRow {
 
 /*
  * Reads one row of a body. `body` are the bytes that fenyurka_lookup found (file + offset, length), `list` their degree and top
- * dimension. `place` is a byte offset into the body: 0 for the first row, then `next` of the row before.
+ * dimension; its floor is not used. `place` is a byte offset into the body: 0 for the first row, then `next` of the row before.
  * The end is reached, and count is 0, where `place` is not the start of a whole row, or degree or top dimension is out of range.
  * The numbers are given as they stand in the file; fenyurka_open and fenyurka_lookup check their ranges.
  */
@@ -189,16 +199,16 @@ typedef struct FenyurkaFile {
 
 /*
  * Writes a catalogue of whole ranked lists, which fenyurka_open, fenyurka_lookup and fenyurka_row read. `entries` says which lists:
- * degree, T, degree, T, .., the degrees strictly ascending; `entries_length` counts numbers, two for each list. A last T that is
- * missing counts as a wrong one. The file goes over the front of the buffer, and the bytes behind it stay; with no entries it is
- * the single byte 0. The same entries always give the same bytes.
+ * degree, T, degree, T, .., the degrees strictly ascending; `entries_length` counts numbers, two for each list. All lists have the
+ * same floor, which the file does not say. A last T that is missing counts as a wrong one. The file goes over the front of the
+ * buffer, and the bytes behind it stay; with no entries it is the single byte 0. The same floor and entries always give the same bytes.
  * A file has 1 byte, 8 for each entry and T + 4 for each row. If you do not know its length, pass a longer buffer:
  * FENYURKA_LONGEST_FILE bytes hold every file.
  * Costs two searches over all pairs for each entry, one that counts the rows and one that writes them; refusal 14 costs only the
  * first ones, and the refusals before it none.
- * Refusals: 1, 2, 13, 14.
+ * Refusals: 1, 2, 12, 13, 14.
  */
-FenyurkaFile fenyurka_write(const uint32_t *entries, size_t entries_length, uint8_t *file, size_t file_length);
+FenyurkaFile fenyurka_write(uint32_t floor, const uint32_t *entries, size_t entries_length, uint8_t *file, size_t file_length);
 
 #ifdef __cplusplus
 }

@@ -62,6 +62,35 @@ uint32_t near(uint32_t m)
     return kind == 0 ? m + 1 : kind == 1 ? m - 1 : kind == 2 ? extremes[below(EXTREMES)] : m;
 }
 
+/* A floor: 0 or 1, a small one, one beside 32, any lawful one, or any number. */
+uint32_t draw_floor(void)
+{
+    switch (below(10)) {
+    case 0:
+    case 1:
+        return below(2);
+    case 2:
+        return 2 + below(6);
+    case 3:
+        return MOST_FLOOR - 1 + below(3);
+    case 4:
+        return extremes[below(EXTREMES)];
+    case 5:
+        return draw();
+    default:
+        return below(MOST_FLOOR + 1);
+    }
+}
+
+/* The same, or beside the step of a pair that floor 0 accepts; seldom a step that is no lawful floor. */
+uint32_t floor_for(uint32_t m, uint32_t p, uint32_t q)
+{
+    uint32_t step;
+    if (below(2) || reference_judge(m, 0, p, q, &step) != 0 || (step > MOST_FLOOR + 1 && below(8)))
+        return draw_floor();
+    return step - 1 + below(3);
+}
+
 /* ---- memory that tells: numbers in the midst of others, bytes that end where a page is that nobody may read */
 
 enum { AROUND = 64, LONGEST = 70000 };
@@ -109,12 +138,12 @@ static uint32_t carried_by(uint32_t refusal, uint32_t m, uint32_t p, uint32_t q)
     return largest;
 }
 
-void try_judge(uint32_t m, uint32_t p, uint32_t q)
+void try_judge(uint32_t m, uint32_t floor, uint32_t p, uint32_t q)
 {
-    uint32_t step = 0, refusal = reference_judge(m, p, q, &step);
-    FenyurkaJudgement got = fenyurka_judge(m, p, q);
+    uint32_t step = 0, refusal = reference_judge(m, floor, p, q, &step);
+    FenyurkaJudgement got = fenyurka_judge(m, floor, p, q);
     int agrees = got.refusal == refusal && got.step == step && got.quotient_degree == carried_by(refusal, m, p, q);
-    SAME(JUDGE, refusal, agrees, m, p, q);
+    SAME(JUDGE, refusal, agrees, m, floor, p, q);
 }
 
 void try_quotients(uint32_t m, uint32_t p, uint32_t q)
@@ -132,28 +161,28 @@ void try_t_value(uint32_t m, uint32_t p, uint32_t q, uint32_t dimension)
     SAME(T_VALUE, refusal, got.refusal == refusal && got.t == t, m, p, q, dimension);
 }
 
-void try_page(uint32_t m, uint32_t top, int after, uint32_t p, uint32_t q, size_t length)
+void try_page(uint32_t m, uint32_t top, uint32_t floor, int after, uint32_t p, uint32_t q, size_t length)
 {
     const uint32_t *rows = arena;
     uint32_t more = 0, *slice = slice_of(length);
     size_t count = 0;
-    uint32_t refusal = reference_page(m, top, after, p, q, length, &rows, &count, &more);
-    FenyurkaList list = {.degree = m, .top = top};
+    uint32_t refusal = reference_page(m, top, floor, after, p, q, length, &rows, &count, &more);
+    FenyurkaList list = {.degree = m, .top = top, .floor = floor};
     FenyurkaPage got = after ? fenyurka_page_after(list, p, q, slice, length) : fenyurka_first_page(list, slice, length);
     int agrees = got.refusal == refusal && got.quotient_degree == carried_by(refusal, m, p, q) && got.more == more && got.count == count
                  && slice_is(rows, refusal ? 0 : count * (top + 1), length);
-    SAME(after ? PAGE_AFTER : FIRST_PAGE, refusal, agrees, m, top, p, q, length);
+    SAME(after ? PAGE_AFTER : FIRST_PAGE, refusal, agrees, m, top, floor, p, q, length);
 }
 
-void try_points(uint32_t m, uint32_t p, uint32_t q, uint32_t first, size_t length)
+void try_points(uint32_t m, uint32_t floor, uint32_t p, uint32_t q, uint32_t first, size_t length)
 {
     static uint32_t words[LONGEST];
     size_t count = 0;
-    uint32_t *slice = slice_of(length), refusal = reference_points(m, p, q, first, words, length, &count);
-    FenyurkaPoints got = fenyurka_points(m, p, q, first, slice, length);
+    uint32_t *slice = slice_of(length), refusal = reference_points(m, floor, p, q, first, words, length, &count);
+    FenyurkaPoints got = fenyurka_points(m, floor, p, q, first, slice, length);
     int agrees = got.refusal == refusal && got.quotient_degree == carried_by(refusal, m, p, q) && got.count == count
                  && slice_is(words, count, length);
-    SAME(POINTS, refusal, agrees, m, p, q, first, length);
+    SAME(POINTS, refusal, agrees, m, floor, p, q, first, length);
 }
 
 void try_open(const uint8_t *bytes, size_t length)
@@ -175,21 +204,22 @@ void try_lookup(const uint8_t *bytes, size_t length, uint32_t m)
     SAME(LOOKUP, refusal, agrees, length, m);
 }
 
+/* At any floor, as a reader does not use it. */
 int try_row(const uint8_t *bytes, size_t length, uint32_t m, uint32_t top, size_t place)
 {
-    uint32_t row[LONGEST_ROW] = {0};
+    uint32_t row[LONGEST_ROW] = {0}, floor = draw_floor();
     size_t next = place;
     const uint8_t *body = fenced(0, bytes, length);
     int found = reference_row(bytes, length, m, top, place, row, &next);
-    FenyurkaRow got = fenyurka_row((FenyurkaList){.degree = m, .top = top}, body, length, place);
+    FenyurkaRow got = fenyurka_row((FenyurkaList){.degree = m, .top = top, .floor = floor}, body, length, place);
     int agrees = got.count == (found ? top + 1 : 0) && got.next == next && memcmp(got.numbers, row, sizeof row) == 0
                  && memcmp(body, bytes, length) == 0;
-    SAME(found ? ROW : END, 0, agrees, length, m, top, place);
+    SAME(found ? ROW : END, 0, agrees, length, m, top, floor, place);
     return found;
 }
 
 /* Whether the library's own calls read a file that was written for these numbers as the same degrees, T and rows. */
-static int read_back(const uint32_t *numbers, size_t count, const uint8_t *file, size_t length)
+static int read_back(uint32_t floor, const uint32_t *numbers, size_t count, const uint8_t *file, size_t length)
 {
     FenyurkaCatalogue opened = fenyurka_open(file, length);
     int agrees = opened.refusal == 0 && opened.entries == count / 2;
@@ -203,7 +233,7 @@ static int read_back(const uint32_t *numbers, size_t count, const uint8_t *file,
             continue;
         }
         uint32_t top = numbers[i + 1], width = top + 1;
-        const uint32_t *list = reference_list(m, top, &all);
+        const uint32_t *list = reference_list(m, top, floor, &all);
         agrees &= body.refusal == 0 && body.top == top && body.rows == all;
         for (size_t r = 0; agrees && r <= all; r++) {
             FenyurkaRow row = fenyurka_row((FenyurkaList){.degree = m, .top = top}, file + body.offset, body.length, place);
@@ -217,42 +247,42 @@ static int read_back(const uint32_t *numbers, size_t count, const uint8_t *file,
 static size_t longest_file;
 
 /* The buffer and bytes in front of it hold marks before the call; the numbers stand elsewhere; both end where nobody may read. */
-void try_write(const uint32_t *numbers, size_t count, size_t length)
+void try_write(uint32_t floor, const uint32_t *numbers, size_t count, size_t length)
 {
     static uint8_t marked[MOST_BYTES];
     const uint8_t *file = NULL;
     size_t file_length = 0, size = count * sizeof numbers[0];
-    uint32_t refusal = reference_write(numbers, count, length, &file, &file_length), mark = draw();
+    uint32_t refusal = reference_write(floor, numbers, count, length, &file, &file_length), mark = draw();
     for (size_t i = 0; i < AROUND + length; i++)
         marked[i] = (uint8_t)((mark + (uint32_t)i * 0x9E3779B9u) >> 24);
     uint8_t *buffer = (uint8_t *)fenced(0, marked, AROUND + length) + AROUND;
     const uint32_t *entries = fenced(1, numbers, size);
-    FenyurkaFile got = fenyurka_write(entries, count, buffer, length);
+    FenyurkaFile got = fenyurka_write(floor, entries, count, buffer, length);
     if (refusal == 0)
         memcpy(marked + AROUND, file, file_length);
     int agrees = got.refusal == refusal && got.length == file_length && memcmp(buffer - AROUND, marked, AROUND + length) == 0
                  && memcmp(entries, numbers, size) == 0;
-    uint64_t asked[1 + 2 * MOST_ENTRIES + 1] = {length};
-    int n = 1;
+    uint64_t asked[2 + 2 * MOST_ENTRIES + 1] = {length, floor};
+    int n = 2;
     for (size_t i = 0; i < count && i <= 2 * MOST_ENTRIES; i++)
         asked[n++] = numbers[i];
     same(WRITE, refusal, agrees, asked, n);
     longest_file = got.length > longest_file ? got.length : longest_file;
     if (refusal == 0)
-        same(READ_BACK, 0, read_back(numbers, count, buffer, file_length), asked, n);
+        same(READ_BACK, 0, read_back(floor, numbers, count, buffer, file_length), asked, n);
 }
 
 /* Walks from the start to the end by the library's own answers, with buffers of `least` to `most` rows: the joined rows are the list. */
-void try_walk(uint32_t m, uint32_t top, uint32_t least, uint32_t most)
+void try_walk(uint32_t m, uint32_t top, uint32_t floor, uint32_t least, uint32_t most)
 {
     size_t all, done = 0;
-    const uint32_t *list = reference_list(m, top, &all);
+    const uint32_t *list = reference_list(m, top, floor, &all);
     uint32_t more = 1, p = 0, q = 0, width = top + 1;
     int agrees = 1;
     for (int after = 0; agrees && more; after = 1) {
         size_t length = (least + below(most - least + 1)) * width + below(width);
         uint32_t *rows = slice_of(length);
-        FenyurkaList asked = {.degree = m, .top = top};
+        FenyurkaList asked = {.degree = m, .top = top, .floor = floor};
         FenyurkaPage page = after ? fenyurka_page_after(asked, p, q, rows, length) : fenyurka_first_page(asked, rows, length);
         agrees = page.refusal == 0 && done + page.count <= all && (page.count > 0 || !page.more)
                  && memcmp(rows, list + done * width, page.count * width * sizeof rows[0]) == 0;
@@ -263,7 +293,7 @@ void try_walk(uint32_t m, uint32_t top, uint32_t least, uint32_t most)
             q = rows[(page.count - 1) * width + 1];
         }
     }
-    SAME(WALK, 0, agrees && done == all, m, top, least, most);
+    SAME(WALK, 0, agrees && done == all, m, top, floor, least, most);
 }
 
 /* ---- the result */

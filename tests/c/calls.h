@@ -16,20 +16,24 @@ extern const uint32_t extremes[EXTREMES];
 /* A degree, nearly always m. */
 uint32_t near(uint32_t m);
 
+/* A floor, mostly lawful; for a pair also the pair's step, one less and one more. */
+uint32_t draw_floor(void);
+uint32_t floor_for(uint32_t m, uint32_t p, uint32_t q);
+
 enum { MOST_BYTES = 1 << 21 };
 
-void try_judge(uint32_t m, uint32_t p, uint32_t q);
+void try_judge(uint32_t m, uint32_t floor, uint32_t p, uint32_t q);
 void try_quotients(uint32_t m, uint32_t p, uint32_t q);
 void try_t_value(uint32_t m, uint32_t p, uint32_t q, uint32_t dimension);
-void try_page(uint32_t m, uint32_t top, int after, uint32_t p, uint32_t q, size_t length);
-void try_walk(uint32_t m, uint32_t top, uint32_t least, uint32_t most);
-void try_points(uint32_t m, uint32_t p, uint32_t q, uint32_t first, size_t length);
+void try_page(uint32_t m, uint32_t top, uint32_t floor, int after, uint32_t p, uint32_t q, size_t length);
+void try_walk(uint32_t m, uint32_t top, uint32_t floor, uint32_t least, uint32_t most);
+void try_points(uint32_t m, uint32_t floor, uint32_t p, uint32_t q, uint32_t first, size_t length);
 void try_open(const uint8_t *bytes, size_t length);
 void try_lookup(const uint8_t *bytes, size_t length, uint32_t m);
 /* Whether there is a row at the place. */
 int try_row(const uint8_t *bytes, size_t length, uint32_t m, uint32_t top, size_t place);
 /* Writes a file into a buffer of this length, and reads it back. */
-void try_write(const uint32_t *numbers, size_t count, size_t length);
+void try_write(uint32_t floor, const uint32_t *numbers, size_t count, size_t length);
 
 /* Catalogues whole and damaged; readers over any bytes; files written for lawful and faulty requests. */
 void catalogues(unsigned rounds);

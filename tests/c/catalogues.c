@@ -34,7 +34,7 @@ static size_t make_catalogue(uint32_t set, uint32_t most, uint32_t whole)
             continue;
         size_t all;
         uint32_t top = whole ? whole : LEAST_TOP + below(6), rows = below(most + 1), real = below(2);
-        const uint32_t *list = reference_list(m, top, &all);
+        const uint32_t *list = reference_list(m, top, 0, &all);
         if (whole)
             rows = (uint32_t)all;
         put(entry, m, 1);
@@ -150,34 +150,35 @@ enum { MOST_NUMBERS = 1200 };
 /* How long the buffer is: as the file, one byte less, one more, empty, or anything. */
 enum room { EXACT, ONE_SHORT, ONE_LONG, EMPTY, ANY, ROOMS };
 
-static void write_into(enum room room, const uint32_t *numbers, size_t count)
+static void write_into(enum room room, uint32_t floor, const uint32_t *numbers, size_t count)
 {
     const uint8_t *written;
     size_t length = 1 + below(200);
-    reference_write(numbers, count, MOST_BYTES, &written, &length);
+    reference_write(floor, numbers, count, MOST_BYTES, &written, &length);
     const size_t lengths[ROOMS] = {length, length - 1, length + 1, 0, below(2 * (uint32_t)length + 20)};
-    try_write(numbers, count, lengths[room]);
+    try_write(floor, numbers, count, lengths[room]);
 }
 
-static void write_into_all(const uint32_t *numbers, size_t count)
+static void write_into_all(uint32_t floor, const uint32_t *numbers, size_t count)
 {
     for (int room = 0; room < ROOMS; room++)
-        write_into(room, numbers, count);
+        write_into(room, floor, numbers, count);
 }
 
-/* Each degree alone, with every T; small files with a buffer of every length. */
+/* Each degree alone, with every T, at every floor up to degree 8; small files with a buffer of every length. */
 static void write_singly(void)
 {
     for (uint32_t m = LEAST_DEGREE; m <= 10; m++)
-        for (uint32_t top = LEAST_TOP; top <= MOST_TOP; top++) {
-            const uint32_t numbers[2] = {m, top};
-            write_into_all(numbers, 2);
-            for (size_t length = 0; m <= 5 && length <= 160; length++)
-                try_write(numbers, 2, length);
-        }
+        for (uint32_t top = LEAST_TOP; top <= MOST_TOP; top++)
+            for (uint32_t floor = 0; floor <= MOST_FLOOR + 1; floor += m <= 8 ? 1 : 11) {
+                const uint32_t numbers[2] = {m, top};
+                write_into_all(floor, numbers, 2);
+                for (size_t length = 0; m <= 5 && length <= 160; length++)
+                    try_write(floor, numbers, 2, length);
+            }
 }
 
-/* All requests of up to `most` numbers out of n. */
+/* All requests of up to `most` numbers out of n, at floor 0 and at another. */
 static void write_all_of(const uint32_t *values, size_t n, size_t most)
 {
     size_t requests = 1;
@@ -186,7 +187,8 @@ static void write_all_of(const uint32_t *values, size_t n, size_t most)
             uint32_t numbers[8];
             for (size_t i = 0, rest = k; i < count; i++, rest /= n)
                 numbers[i] = values[rest % n];
-            write_into(below(ROOMS), numbers, count);
+            write_into(below(ROOMS), 0, numbers, count);
+            write_into(below(ROOMS), draw_floor(), numbers, count);
         }
 }
 
@@ -249,21 +251,23 @@ static void write_high(void)
 {
     uint32_t numbers[2 * MOST_ENTRIES];
     for (uint32_t m = 11; m <= MOST_DEGREE; m++)
-        for (uint32_t top = LEAST_TOP; top <= MOST_TOP; top += m < 13 ? 1 : 5) {
-            numbers[0] = m;
-            numbers[1] = top;
-            write_into(below(2) ? EXACT : ONE_LONG, numbers, 2);
-            write_into(below(2) ? ONE_SHORT : EMPTY, numbers, 2);
-        }
+        for (uint32_t top = LEAST_TOP; top <= MOST_TOP; top += m < 13 ? 1 : 5)
+            for (uint32_t floor = 0; floor <= MOST_FLOOR; floor += MOST_FLOOR) {
+                numbers[0] = m;
+                numbers[1] = top;
+                write_into(below(2) ? EXACT : ONE_LONG, floor, numbers, 2);
+                write_into(below(2) ? ONE_SHORT : EMPTY, floor, numbers, 2);
+            }
     for (int i = 0; i < 40; i++)
-        write_into(i % ROOMS, numbers, draw_request(numbers, LEAST_DEGREE, i < 36 ? 13 : MOST_DEGREE));
-    for (int kind = 0; kind < 3; kind++) {
+        write_into(i % ROOMS, below(MOST_FLOOR + 1), numbers, draw_request(numbers, LEAST_DEGREE, i < 36 ? 13 : MOST_DEGREE));
+    for (int kind = 0; kind < 4; kind++) {
+        uint32_t floor = kind == 0 ? below(MOST_FLOOR + 1) : kind == 3 ? MOST_FLOOR : 0;
         for (uint32_t i = 0; i < MOST_ENTRIES; i++) {
             numbers[2 * i] = LEAST_DEGREE + i;
             numbers[2 * i + 1] = kind == 0 ? LEAST_TOP + below(6) : kind == 1 ? LEAST_TOP : MOST_TOP;
         }
-        write_into(kind == 0 ? ONE_LONG : EXACT, numbers, 2 * MOST_ENTRIES);
-        write_into(ONE_SHORT, numbers, 2 * MOST_ENTRIES);
+        write_into(kind == 0 ? ONE_LONG : EXACT, floor, numbers, 2 * MOST_ENTRIES);
+        write_into(ONE_SHORT, floor, numbers, 2 * MOST_ENTRIES);
     }
 }
 
@@ -276,10 +280,10 @@ void writers(unsigned rounds)
     write_all_of(six, 6, 6);
     for (unsigned i = 0; i < rounds; i++) {
         size_t count = draw_request(numbers, LEAST_DEGREE, below(10) ? 8 : 10);
-        write_into_all(numbers, count);
+        write_into_all(below(MOST_FLOOR + 1), numbers, count);
         for (uint32_t faults = 1 + below(3); faults > 0 && count > 1; faults--)
             count = spoil(numbers, count);
-        write_into(below(ROOMS), numbers, count);
+        write_into(below(ROOMS), draw_floor(), numbers, count);
     }
     write_high();
 }

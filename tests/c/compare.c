@@ -1,4 +1,4 @@
-/* Compares the library, through its header, with the reference: which pairs, pages and points are compared. Prints what was
+/* Compares the library, through its header, with the reference: which pairs, floors, pages and points are compared. Prints what was
    compared and how often; exit status 1 on any difference. An argument is the seed of the random part. */
 #include "calls.h"
 #include "reference.h"
@@ -8,31 +8,32 @@
 
 /* ---- all pairs of small degrees */
 
-static void small_pages(uint32_t m, uint32_t top)
+/* Pages of all lengths at a floor, from the start and after each pair that floor 0 accepts, and walks. */
+static void small_pages(uint32_t m, uint32_t top, uint32_t floor)
 {
-    size_t all;
-    const uint32_t *list = reference_list(m, top, &all);
+    size_t all, pairs;
+    const uint32_t *list = reference_list(m, top, 0, &pairs);
+    reference_list(m, top, floor, &all);
     for (size_t length = 0; length <= (all + 2) * (top + 1); length++) {
-        try_page(m, top, 0, 0, 0, length);
-        for (size_t i = 0; i < all; i++)
-            try_page(m, top, 1, list[i * (top + 1)], list[i * (top + 1) + 1], length);
+        try_page(m, top, floor, 0, 0, 0, length);
+        for (size_t i = 0; i < pairs; i++)
+            try_page(m, top, floor, 1, list[i * (top + 1)], list[i * (top + 1) + 1], length);
     }
     for (uint32_t rows = 1; rows <= all + 1; rows++)
-        try_walk(m, top, rows, rows);
+        try_walk(m, top, floor, rows, rows);
     for (int i = 0; i < 20; i++)
-        try_walk(m, top, 1, (uint32_t)all + 1);
+        try_walk(m, top, floor, 1, (uint32_t)all + 1);
 }
 
+/* All first indices and lengths, each at some floor that accepts the pair. */
 static void small_points(uint32_t m, uint32_t p, uint32_t q)
 {
     uint32_t step, period = ((uint32_t)1 << m) - 1;
-    if (reference_judge(m, p, q, &step) != 0) {
-        try_points(m, p, q, below(period + 2), below(period + 2));
+    if (reference_judge(m, 0, p, q, &step) != 0)
         return;
-    }
     for (uint32_t first = 0; first <= period + 1; first++)
         for (size_t length = 0; length <= period + 2; length++)
-            try_points(m, p, q, first, length);
+            try_points(m, below((step < MOST_FLOOR ? step : MOST_FLOOR) + 1), p, q, first, length);
 }
 
 static void small_degree(uint32_t m)
@@ -40,15 +41,23 @@ static void small_degree(uint32_t m)
     uint32_t size = (uint32_t)1 << m;
     for (uint32_t p = 0; p <= 2 * size + 2; p++)
         for (uint32_t q = 0; q <= size + 2; q++) {
-            try_judge(m, p, q);
+            for (uint32_t floor = 0; floor <= MOST_FLOOR + 1; floor++) {
+                try_judge(m, floor, p, q);
+                try_points(m, floor, p, q, below(size + 1), below(size + 1));
+                try_page(m, LEAST_TOP + below(6), floor, 1, p, q, below(40));
+            }
+            try_judge(m, draw(), p, q);
             try_quotients(m, p, q);
             small_points(m, p, q);
-            try_page(m, LEAST_TOP + below(6), 1, p, q, below(40));
             for (uint32_t s = 0; s <= 9; s++)
                 try_t_value(m, p, q, s);
         }
-    for (uint32_t top = LEAST_TOP; top <= MOST_TOP; top++)
-        small_pages(m, top);
+    for (uint32_t top = LEAST_TOP; top <= MOST_TOP; top++) {
+        for (uint32_t floor = 0; floor <= MOST_FLOOR; floor++)
+            small_pages(m, top, floor);
+        for (uint32_t i = 0; i < 100; i++)
+            try_page(m, top, draw_floor(), 0, 0, 0, below(40));
+    }
 }
 
 /* ---- random pairs to degree 16 */
@@ -65,21 +74,37 @@ static void draw_leaf(uint32_t m, uint32_t *p, uint32_t *q)
     }
 }
 
-/* A pair of some kind: accepted, nearly so, down the tree and mostly with p primitive, well-formed, or of numbers as they come. */
+/* An accepted pair of a step up to 33, or any where there is none. */
+static const uint32_t *draw_short(const uint32_t *list, uint32_t all)
+{
+    uint32_t i = below(all), left = all;
+    while (list[4 * i + 2] > MOST_FLOOR + 1 && --left > 0)
+        i = (i + 1) % all;
+    return list + 4 * i;
+}
+
+/* A pair of some kind: accepted, nearly so, down the tree and mostly with p primitive, well-formed, or of numbers as they come;
+   accepted of a short step, or p of such a pair and a low power of x. */
 static void draw_pair(uint32_t m, uint32_t *p, uint32_t *q)
 {
     size_t all;
-    uint32_t size = (uint32_t)1 << m, kind = below(8);
-    const uint32_t *list = reference_list(m, LEAST_TOP, &all);
+    uint32_t size = (uint32_t)1 << m, kind = below(10);
+    const uint32_t *list = reference_list(m, LEAST_TOP, 0, &all);
     *p = size + below(size);
     *q = 1 + below(size - 1);
-    if (kind < 4 && all > 0) {
+    if (kind >= 8 && all > 0) {
+        const uint32_t *row = draw_short(list, (uint32_t)all);
+        *p = row[0];
+        *q = kind == 8 ? row[1] : 2;
+        for (uint32_t e = kind == 8 ? 0 : below(MOST_FLOOR + 1); e > 0; e--)
+            *q = 2 * *q >> m & 1 ? 2 * *q ^ *p : 2 * *q;
+    } else if (kind < 4 && all > 0) {
         const uint32_t *row = list + 4 * below((uint32_t)all);
         *p = row[0] ^ (kind == 2 ? (uint32_t)1 << below(m + 2) : 0);
         *q = row[1] ^ (kind == 3 ? (uint32_t)1 << below(m + 1) : 0);
     } else if (kind == 4) {
         uint32_t step;
-        for (int i = 0; i == 0 || (i < 40 && reference_judge(m, *p, *q, &step) == 4); i++)
+        for (int i = 0; i == 0 || (i < 40 && reference_judge(m, 0, *p, *q, &step) == 4); i++)
             draw_leaf(m, p, q);
     } else if (kind == 5 && all > 0)
         *p = list[4 * below((uint32_t)all)];
@@ -93,7 +118,8 @@ static void random_pairs(unsigned rounds)
     for (unsigned i = 0; i < rounds; i++) {
         uint32_t m = LEAST_DEGREE + below(15);
         draw_pair(m, &p, &q);
-        try_judge(near(m), p, q);
+        try_judge(near(m), floor_for(m, p, q), p, q);
+        try_judge(m, below(MOST_FLOOR + 1), p, q);
         try_quotients(near(m), p, q);
         draw_pair(m, &p, &q);
         try_quotients(near(m), p, q);
@@ -113,11 +139,25 @@ static void random_points(unsigned rounds)
         if (kind == 4)
             length = (size_t)period - first + below(50);
         draw_pair(m, &p, &q);
-        try_points(near(m), p, q, first, length);
+        try_points(near(m), floor_for(m, p, q), p, q, first, length);
     }
 }
 
-/* Page calls that search: fewer the higher the degree. */
+/* Pages after each row of a step below 32 and from the row before it, at the last floor that the step reaches and at the next. */
+static void pages_about_short_steps(uint32_t m, uint32_t top)
+{
+    size_t all, width = top + 1;
+    const uint32_t *list = reference_list(m, top, 0, &all);
+    for (size_t i = 0; i < all; i++) {
+        const uint32_t *row = list + i * width, *before = i > 0 ? row - width : row, step = row[2];
+        for (uint32_t floor = step; step < MOST_FLOOR && floor <= step + 1; floor++) {
+            try_page(m, top, floor, i > 0, before[0], before[1], 3 * width);
+            try_page(m, top, floor, 1, row[0], row[1], 3 * width);
+        }
+    }
+}
+
+/* Page calls that search, and walks at some floors: fewer the higher the degree. */
 static void random_pages(void)
 {
     static const unsigned rounds[MOST_DEGREE + 1] = {[7] = 400, 300, 300, 200, 100, 50, 24, 16, 10, 8};
@@ -125,20 +165,26 @@ static void random_pages(void)
         size_t all;
         for (unsigned i = 0; i < rounds[m]; i++) {
             uint32_t top = LEAST_TOP + below(6), width = top + 1;
-            const uint32_t *row = reference_list(m, top, &all) + below((uint32_t)all) * width;
+            const uint32_t *row = reference_list(m, top, 0, &all) + below((uint32_t)all) * width;
+            uint32_t floor = below(4) ? below(MOST_FLOOR + 1) : floor_for(m, row[0], row[1]);
             size_t rows = below(3) ? below(60) : below((uint32_t)all + 2);
-            try_page(m, top, below(4) != 0, row[0], row[1], rows * width + below(width));
+            try_page(m, top, floor, below(4) != 0, row[0], row[1], rows * width + below(width));
         }
         for (uint32_t top = LEAST_TOP; top <= MOST_TOP; top += m < 12 ? 1 : 5) {
-            try_walk(m, top, (uint32_t)all / 3 + 1, (uint32_t)all / 3 + 1);
-            if (m < 12)
-                try_walk(m, top, 1 + (uint32_t)all / 20, 1 + (uint32_t)all / 4);
+            const uint32_t floors[] = {0, MOST_FLOOR, below(MOST_FLOOR), 1 + below(MOST_FLOOR)};
+            pages_about_short_steps(m, top);
+            for (int k = 0; k < (m < 12 ? 4 : 2); k++) {
+                try_walk(m, top, floors[k], (uint32_t)all / 3 + 1, (uint32_t)all / 3 + 1);
+                if (m < 12)
+                    try_walk(m, top, floors[k], 1 + (uint32_t)all / 20, 1 + (uint32_t)all / 4);
+            }
         }
         for (unsigned i = 0; i < 200; i++) {
             uint32_t p, q, step;
             draw_pair(m, &p, &q);
-            if (reference_judge(m, p, q, &step) != 0)
-                try_page(near(m), below(12), 1, p, q, below(40));
+            uint32_t floor = floor_for(m, p, q);
+            if (reference_judge(m, floor, p, q, &step) != 0)
+                try_page(near(m), below(12), floor, 1, p, q, below(40));
         }
     }
 }
@@ -148,11 +194,13 @@ static void random_pages(void)
 static void extreme_pages(uint32_t m, uint32_t top)
 {
     static const size_t lengths[] = {0, 1, 3, 4, 5, 8, 9, 10, 100};
-    for (size_t k = 0; k < sizeof lengths / sizeof lengths[0]; k++) {
-        if (m <= 10 || m > MOST_DEGREE || lengths[k] <= top)
-            try_page(m, top, 0, 0, 0, lengths[k]);
-        try_page(m, top, 1, extremes[below(EXTREMES)], extremes[below(EXTREMES)], lengths[k]);
-    }
+    for (size_t k = 0; k < sizeof lengths / sizeof lengths[0]; k++)
+        for (int i = 0; i < 3; i++) {
+            uint32_t floor = i == 0 ? 0 : i == 1 ? extremes[below(EXTREMES)] : draw_floor();
+            if (m <= 10 || m > MOST_DEGREE || lengths[k] <= top)
+                try_page(m, top, floor, 0, 0, 0, lengths[k]);
+            try_page(m, top, floor, 1, extremes[below(EXTREMES)], extremes[below(EXTREMES)], lengths[k]);
+        }
 }
 
 static void extreme_numbers(void)
@@ -161,11 +209,11 @@ static void extreme_numbers(void)
         for (int b = 0; b < EXTREMES; b++) {
             extreme_pages(extremes[a], extremes[b]);
             for (int c = 0; c < EXTREMES; c++) {
-                try_judge(extremes[a], extremes[b], extremes[c]);
                 try_quotients(extremes[a], extremes[b], extremes[c]);
                 for (int d = 0; d < EXTREMES; d += 1 + (int)below(3)) {
+                    try_judge(extremes[a], extremes[d], extremes[b], extremes[c]);
                     try_t_value(extremes[a], extremes[b], extremes[c], extremes[d]);
-                    try_points(extremes[a], extremes[b], extremes[c], extremes[d], below(3));
+                    try_points(extremes[a], draw_floor(), extremes[b], extremes[c], extremes[d], below(3));
                 }
             }
         }

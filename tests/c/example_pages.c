@@ -6,7 +6,7 @@ enum { DEGREE = 10, TOP = 5, WIDTH = TOP + 1, LENGTH = 20 * WIDTH }; /* a row is
 
 int main(void)
 {
-    FenyurkaList list = {.degree = DEGREE, .top = TOP};
+    FenyurkaList list = {.degree = DEGREE, .top = TOP, .floor = 0}; /* .floor = 32 leaves out steps below 32 */
     uint32_t rows[LENGTH];
     FenyurkaPage page = fenyurka_first_page(list, rows, LENGTH);
     while (page.refusal == 0) {

@@ -6,7 +6,7 @@ int main(void)
 {
     static const uint32_t entries[] = {3, 4, 10, 8}; /* degree, T, degree, T */
     static uint8_t file[FENYURKA_LONGEST_FILE];
-    FenyurkaFile written = fenyurka_write(entries, 4, file, sizeof file);
+    FenyurkaFile written = fenyurka_write(0, entries, 4, file, sizeof file); /* floor 0: pairs of every step */
     if (written.refusal != 0) {
         printf("refused %u\n", written.refusal);
         return 1;

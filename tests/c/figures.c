@@ -1,6 +1,6 @@
-/* Compares the reference with figures printed elsewhere: the examples of document 01, K of (11, 2) and the order of the writer's
-   refusals in document 02, and Tables 1 and 2 of document 001 for m = 10 to 16, typed from their pages. Prints each comparison; exit
-   status 1 where one fails that is not noted. */
+/* Compares the reference with figures printed elsewhere: the examples of document 01 and what a floor leaves of them, K of (11, 2) and
+   the orders of refusals in document 02, and Tables 1 and 2 of document 001 for m = 10 to 16, typed from their pages. Prints each
+   comparison; exit status 1 where one fails that is not noted. */
 #include "reference.h"
 
 #include <inttypes.h>
@@ -28,8 +28,27 @@ static void judging(void)
     for (size_t i = 0; i < sizeof cases / sizeof cases[0]; i++) {
         const uint32_t *c = cases[i];
         uint32_t step = 0;
-        hold("judging", reference_judge(c[0], c[1], c[2], &step), c[3]);
+        hold("judging", reference_judge(c[0], 0, c[1], c[2], &step), c[3]);
         hold("step", step, c[4]);
+    }
+}
+
+/* Document 02: 12 directly after 1, 11 directly after 6. The step of (11, 2) is 1, that of (19, 12) 6. */
+static void judging_at_floors(void)
+{
+    static const uint32_t cases[][6] = {
+        /* degree, floor, p, q, refusal, step */
+        {2, 1, 7, 2, 0, 1},     {2, 2, 7, 2, 11, 0},    {2, 2, 7, 3, 0, 2},     {2, 3, 7, 3, 11, 0},           {3, 5, 11, 7, 0, 5},
+        {3, 6, 11, 7, 11, 0},   {3, 3, 13, 5, 0, 3},    {3, 4, 13, 5, 11, 0},   {3, 32, 11, 7, 11, 0},         {3, 33, 11, 7, 12, 0},
+        {1, 33, 2, 1, 1, 0},    {17, 33, 16, 1, 1, 0},  {3, 33, 16, 1, 12, 0},  {3, 0xFFFFFFFF, 11, 7, 12, 0}, {4, 33, 31, 12, 12, 0},
+        {3, 33, 11, 2, 12, 0},  {4, 33, 19, 12, 12, 0}, {3, 32, 16, 1, 3, 0},   {4, 32, 31, 12, 4, 0},         {3, 1, 11, 2, 5, 0},
+        {3, 2, 11, 2, 5, 0},    {4, 6, 19, 12, 6, 0},   {4, 7, 19, 12, 6, 0},
+    };
+    for (size_t i = 0; i < sizeof cases / sizeof cases[0]; i++) {
+        const uint32_t *c = cases[i];
+        uint32_t step = 0;
+        hold("judging at a floor", reference_judge(c[0], c[1], c[2], c[3], &step), c[4]);
+        hold("step at a floor", step, c[5]);
     }
 }
 
@@ -70,14 +89,56 @@ static void pages(void)
     const uint32_t *rows;
     size_t count = 9;
     uint32_t more = 9;
-    hold("page 4 3", reference_page(4, 3, 0, 0, 0, 4, &rows, &count, &more), 0);
+    hold("page 4 3", reference_page(4, 3, 0, 0, 0, 0, 4, &rows, &count, &more), 0);
     hold("rows", (uint32_t)count, 0);
     hold("more", more, 0);
-    hold("page 3 4", reference_page(3, 4, 0, 0, 0, 20, &rows, &count, &more), 0);
+    hold("page 3 4", reference_page(3, 4, 0, 0, 0, 0, 20, &rows, &count, &more), 0);
     hold("rows", (uint32_t)count, 4);
     hold("more", more, 0);
     hold("page 3 4, numbers", memcmp(rows, four, sizeof four) != 0, 0);
-    hold("page 3 4, slice of 4", reference_page(3, 4, 0, 0, 0, 4, &rows, &count, &more), 7);
+    hold("page 3 4, slice of 4", reference_page(3, 4, 0, 0, 0, 0, 4, &rows, &count, &more), 7);
+}
+
+/* Of document 01's four rows of degree 3, whose steps are 2, 5, 3 and 4, those that a floor leaves: row k where bit k is set. */
+static void pages_at_floors(void)
+{
+    static const uint32_t four[4][5] = {{11, 4, 2, 1, 1}, {11, 7, 5, 1, 1}, {13, 5, 3, 1, 1}, {13, 7, 4, 1, 1}};
+    static const uint32_t left[] = {15, 15, 15, 14, 10, 2, 0};
+    for (uint32_t floor = 0; floor <= 32; floor++) {
+        const uint32_t *rows;
+        size_t count, n = 0;
+        uint32_t more;
+        hold("page at a floor", reference_page(3, 4, floor, 0, 0, 0, 20, &rows, &count, &more), 0);
+        for (uint32_t k = 0; k < 4; k++) {
+            if (!(left[floor < 6 ? floor : 6] >> k & 1))
+                continue;
+            hold("its row", n >= count || memcmp(rows + 5 * n, four[k], sizeof four[k]) != 0, 0);
+            n++;
+        }
+        hold("its rows", (uint32_t)count, (uint32_t)n);
+        hold("its more", more, 0);
+    }
+}
+
+/* Document 02: a page gives 1, 2, 12, then for a position after a pair 3 to 6 and 11, then 7. */
+static void orders_of_pages(void)
+{
+    static const uint32_t cases[][9] = {
+        /* degree, T, floor, after a pair, p, q, slice, refusal, rows */
+        {17, 9, 33, 1, 16, 1, 0, 1, 0}, {3, 9, 33, 1, 16, 1, 0, 2, 0},  {3, 4, 33, 1, 16, 1, 0, 12, 0}, {3, 4, 33, 1, 11, 7, 5, 12, 0},
+        {3, 4, 32, 1, 16, 1, 0, 3, 0},  {4, 4, 32, 1, 31, 12, 0, 4, 0}, {3, 4, 32, 1, 11, 2, 0, 5, 0},  {4, 4, 32, 1, 19, 12, 0, 6, 0},
+        {3, 4, 6, 1, 11, 7, 0, 11, 0},  {3, 4, 6, 1, 11, 7, 20, 11, 0}, {3, 4, 5, 1, 11, 7, 4, 7, 0},   {3, 4, 5, 1, 11, 7, 5, 0, 0},
+        {3, 4, 3, 1, 13, 5, 20, 0, 1},  {3, 4, 3, 1, 11, 7, 20, 0, 2},  {3, 4, 4, 1, 11, 7, 20, 0, 1},  {3, 4, 4, 1, 13, 5, 20, 11, 0},
+        {17, 9, 33, 0, 0, 0, 0, 1, 0},  {3, 9, 33, 0, 0, 0, 0, 2, 0},   {3, 4, 33, 0, 0, 0, 0, 12, 0},  {3, 4, 33, 0, 0, 0, 20, 12, 0},
+        {3, 4, 32, 0, 0, 0, 4, 7, 0},   {3, 4, 32, 0, 0, 0, 5, 0, 0},   {3, 4, 3, 0, 0, 0, 12, 0, 2},   {3, 4, 5, 0, 0, 0, 20, 0, 1},
+    };
+    for (size_t i = 0; i < sizeof cases / sizeof cases[0]; i++) {
+        const uint32_t *c = cases[i], *rows;
+        size_t count = 0;
+        uint32_t more;
+        hold("order of a page", reference_page(c[0], c[1], c[2], (int)c[3], c[4], c[5], c[6], &rows, &count, &more), c[7]);
+        hold("rows of a page", (uint32_t)count, c[8]);
+    }
 }
 
 static void words(void)
@@ -85,9 +146,28 @@ static void words(void)
     static const uint32_t seven[7] = {0x2E5CB972, 0xB972E5CB, 0xE5CB972E, 0x972E5CB9, 0x5CB972E5, 0x72E5CB97, 0xCB972E5C};
     uint32_t out[8];
     size_t count = 9;
-    hold("points", reference_points(3, 11, 4, 0, out, 8, &count), 0);
+    hold("points", reference_points(3, 0, 11, 4, 0, out, 8, &count), 0);
     hold("words", (uint32_t)count, 7);
     hold("words' digits", memcmp(out, seven, sizeof seven) != 0, 0);
+    memset(out, 0, sizeof out);
+    hold("points at floor 2", reference_points(3, 2, 11, 4, 0, out, 8, &count), 0);
+    hold("their digits", memcmp(out, seven, sizeof seven) != 0, 0);
+}
+
+/* Document 02: points give 1, 12, 3 to 6, 11, 8. */
+static void orders_of_points(void)
+{
+    static const uint32_t cases[][6] = {
+        /* degree, floor, p, q, first index, refusal */
+        {17, 33, 16, 1, 7, 1},  {3, 33, 16, 1, 7, 12}, {3, 32, 16, 1, 7, 3},  {4, 32, 31, 12, 15, 4}, {3, 32, 11, 2, 7, 5},
+        {4, 32, 19, 12, 15, 6}, {3, 3, 11, 4, 7, 11},  {3, 3, 11, 4, 0, 11},  {3, 2, 11, 4, 7, 8},    {3, 2, 11, 4, 6, 0},
+    };
+    for (size_t i = 0; i < sizeof cases / sizeof cases[0]; i++) {
+        const uint32_t *c = cases[i];
+        uint32_t out[1];
+        size_t count;
+        hold("order of points", reference_points(c[0], c[1], c[2], c[3], c[4], out, 1, &count), c[5]);
+    }
 }
 
 static void catalogue(void)
@@ -99,7 +179,7 @@ static void catalogue(void)
     uint32_t entries = 99, row[LONGEST_ROW];
     struct reference_body body = {0};
     size_t place = 0, count;
-    const uint32_t *list = reference_list(3, 4, &count);
+    const uint32_t *list = reference_list(3, 4, 0, &count);
     hold("open", reference_open(file, sizeof file, &entries), 0);
     hold("entries", entries, 1);
     hold("lookup", reference_lookup(file, sizeof file, 3, &body), 0);
@@ -115,29 +195,40 @@ static void catalogue(void)
     static const uint32_t entries_of_file[2] = {3, 4};
     const uint8_t *written;
     size_t length = 0;
-    hold("write 3 4", reference_write(entries_of_file, 2, sizeof file, &written, &length), 0);
+    hold("write 3 4", reference_write(0, entries_of_file, 2, sizeof file, &written, &length), 0);
     hold("its bytes", length != sizeof file || memcmp(written, file, sizeof file) != 0, 0);
-    hold("write 3 4 into 40 bytes", reference_write(entries_of_file, 2, sizeof file - 1, &written, &length), 14);
-    hold("write nothing", reference_write(entries_of_file, 0, 1, &written, &length), 0);
+    hold("write 3 4 into 40 bytes", reference_write(0, entries_of_file, 2, sizeof file - 1, &written, &length), 14);
+    hold("write nothing", reference_write(0, entries_of_file, 0, 1, &written, &length), 0);
     hold("its byte", length != 1 || written[0] != 0, 0);
-    hold("write nothing into nothing", reference_write(entries_of_file, 0, 0, &written, &length), 14);
+    hold("write nothing into nothing", reference_write(0, entries_of_file, 0, 0, &written, &length), 14);
+
+    /* Floor 5 leaves the row of step 5, floor 6 none. */
+    static const uint8_t one_row[17] = {1, 3, 4, 0, 1, 0, 0, 0, 9, 0, 3, 0, 7, 0, 5, 1, 1}, no_row[9] = {1, 3, 4, 0, 0, 0, 0, 0, 9};
+    hold("write 3 4 at floor 5", reference_write(5, entries_of_file, 2, sizeof one_row, &written, &length), 0);
+    hold("its bytes", length != sizeof one_row || memcmp(written, one_row, sizeof one_row) != 0, 0);
+    hold("write 3 4 at floor 5 into 16 bytes", reference_write(5, entries_of_file, 2, sizeof one_row - 1, &written, &length), 14);
+    hold("write 3 4 at floor 6", reference_write(6, entries_of_file, 2, sizeof no_row, &written, &length), 0);
+    hold("its bytes", length != sizeof no_row || memcmp(written, no_row, sizeof no_row) != 0, 0);
 }
 
-/* Document 02: 1 if any entry has a wrong degree, then 2 if any has a wrong or missing T, then 13, then 14. */
+/* Document 02: 1 if any entry has a wrong degree, then 2 if any has a wrong or missing T, then 12, then 13, then 14. */
 static void writing(void)
 {
     static const struct {
-        uint32_t refusal;
+        uint32_t refusal, floor;
         size_t count;
         uint32_t numbers[6];
     } cases[] = {
-        {1, 6, {3, 9, 3, 3, 17, 3}}, {1, 5, {3, 9, 3, 3, 1}}, {2, 6, {5, 3, 3, 3, 6, 9}}, {2, 5, {5, 3, 3, 3, 6}}, {2, 1, {3}},
-        {13, 4, {5, 3, 3, 3}},       {13, 4, {3, 3, 3, 4}},   {13, 6, {3, 3, 6, 4, 5, 3}}, {14, 4, {3, 3, 5, 3}},   {1, 1, {0}},
+        {1, 0, 6, {3, 9, 3, 3, 17, 3}}, {1, 0, 5, {3, 9, 3, 3, 1}}, {2, 0, 6, {5, 3, 3, 3, 6, 9}},   {2, 0, 5, {5, 3, 3, 3, 6}},
+        {2, 0, 1, {3}},                 {13, 0, 4, {5, 3, 3, 3}},   {13, 0, 4, {3, 3, 3, 4}},        {13, 0, 6, {3, 3, 6, 4, 5, 3}},
+        {14, 0, 4, {3, 3, 5, 3}},       {1, 0, 1, {0}},             {1, 33, 6, {3, 9, 3, 3, 17, 3}}, {2, 33, 6, {5, 3, 3, 3, 6, 9}},
+        {2, 33, 1, {3}},                {12, 33, 4, {5, 3, 3, 3}},  {12, 33, 2, {3, 3}},             {12, 33, 0, {0}},
+        {13, 32, 4, {5, 3, 3, 3}},      {14, 32, 4, {3, 3, 5, 3}},  {14, 32, 0, {0}},
     };
     for (size_t i = 0; i < sizeof cases / sizeof cases[0]; i++) {
         const uint8_t *written;
         size_t length;
-        hold("writing", reference_write(cases[i].numbers, cases[i].count, 0, &written, &length), cases[i].refusal);
+        hold("writing", reference_write(cases[i].floor, cases[i].numbers, cases[i].count, 0, &written, &length), cases[i].refusal);
     }
 }
 
@@ -178,7 +269,8 @@ static void tables(void)
                 q |= (uint32_t)(*c - '0') << (k - l->m - 1);
             k++;
         }
-        uint32_t refusal = reference_judge(l->m, p, q, &step);
+        /* At floor 32, as document 001 requires a step of at least the digits of a word. */
+        uint32_t refusal = reference_judge(l->m, 32, p, q, &step);
         wrong = k != 2 * l->m + 1 || refusal != 0 || step != l->step;
         printf("m %" PRIu32 " coefficients %" PRIu32 " pair %" PRIu32 " %" PRIu32 " printed step %" PRIu32 " refusal %" PRIu32
                " step %" PRIu32 " t(2) .. t(8)", l->m, k, p, q, l->step, refusal, step);
@@ -196,10 +288,14 @@ static void tables(void)
 int main(void)
 {
     judging();
+    judging_at_floors();
     quotients();
     t_values();
     pages();
+    pages_at_floors();
+    orders_of_pages();
     words();
+    orders_of_points();
     catalogue();
     writing();
     tables();

@@ -1,5 +1,5 @@
-/* Document 01 in plain C, slow and literal. Orders and steps by walking, quotients by Euclid, t by counting points in boxes, the
-   list out of all pairs and sorted by the whole key. */
+/* Documents 01 and 02 in plain C, slow and literal. Orders and steps by walking, quotients by Euclid, t by counting points in boxes,
+   the list out of all pairs and sorted by the whole key. */
 #include "reference.h"
 
 #include <stdlib.h>
@@ -114,10 +114,12 @@ static int coprime(uint32_t a, uint32_t b)
     return a == 1;
 }
 
-uint32_t reference_judge(uint32_t m, uint32_t p, uint32_t q, uint32_t *step)
+uint32_t reference_judge(uint32_t m, uint32_t floor, uint32_t p, uint32_t q, uint32_t *step)
 {
     if (!lawful_degree(m))
         return 1;
+    if (!lawful_floor(floor))
+        return 12;
     if (!well_formed(m, p, q))
         return 3;
     if (!primitive(m, p))
@@ -127,6 +129,8 @@ uint32_t reference_judge(uint32_t m, uint32_t p, uint32_t q, uint32_t *step)
     uint32_t s = step_of(m, p, q);
     if (!coprime(s, ((uint32_t)1 << m) - 1))
         return 6;
+    if (s < floor)
+        return 11;
     *step = s;
     return 0;
 }
@@ -266,7 +270,7 @@ uint32_t reference_t_value(uint32_t m, uint32_t p, uint32_t q, uint32_t dimensio
 
 /* ---- the ranked list and its pages */
 
-/* All accepted pairs of a degree, their steps and all t-values, in no rank. */
+/* All pairs of a degree that are accepted at floor 0, their steps and all t-values, in no rank. */
 struct accepted {
     size_t count;
     uint32_t (*rows)[LONGEST_ROW];
@@ -298,6 +302,12 @@ static struct accepted *accepted_of(uint32_t m)
     return all;
 }
 
+/* A ranked list at a floor; its rows are NULL until it is asked for. */
+struct ranked {
+    size_t count;
+    uint32_t *rows;
+};
+
 static uint32_t compared_top;
 
 /* By t(3) .. t(T), then p, then q. */
@@ -314,23 +324,25 @@ static int compare_rows(const void *left, const void *right)
     return 0;
 }
 
-const uint32_t *reference_list(uint32_t m, uint32_t top, size_t *count)
+const uint32_t *reference_list(uint32_t m, uint32_t top, uint32_t floor, size_t *count)
 {
-    static uint32_t *lists[MOST_DEGREE + 1][MOST_TOP + 1];
+    static struct ranked lists[MOST_DEGREE + 1][MOST_TOP + 1][MOST_FLOOR + 1];
+    struct ranked *list = &lists[m][top][floor];
     struct accepted *all = accepted_of(m);
-    *count = all->count;
-    if (lists[m][top] == NULL) {
-        lists[m][top] = malloc(sizeof(uint32_t) * (all->count * (top + 1) + 1));
+    if (list->rows == NULL) {
+        list->rows = malloc(sizeof(uint32_t) * (all->count * (top + 1) + 1));
         compared_top = top;
         qsort(all->rows, all->count, sizeof all->rows[0], compare_rows);
         for (size_t i = 0; i < all->count; i++)
-            memcpy(lists[m][top] + i * (top + 1), all->rows[i], sizeof(uint32_t) * (top + 1));
+            if (all->rows[i][2] >= floor)
+                memcpy(list->rows + list->count++ * (top + 1), all->rows[i], sizeof(uint32_t) * (top + 1));
     }
-    return lists[m][top];
+    *count = list->count;
+    return list->rows;
 }
 
-uint32_t reference_page(uint32_t m, uint32_t top, int after, uint32_t p, uint32_t q, size_t slice, const uint32_t **rows,
-                        size_t *count, uint32_t *more)
+uint32_t reference_page(uint32_t m, uint32_t top, uint32_t floor, int after, uint32_t p, uint32_t q, size_t slice,
+                        const uint32_t **rows, size_t *count, uint32_t *more)
 {
     uint32_t step, refusal;
     size_t all, place = 0;
@@ -338,11 +350,13 @@ uint32_t reference_page(uint32_t m, uint32_t top, int after, uint32_t p, uint32_
         return 1;
     if (!lawful_top(top))
         return 2;
-    if (after && (refusal = reference_judge(m, p, q, &step)) != 0)
+    if (!lawful_floor(floor))
+        return 12;
+    if (after && (refusal = reference_judge(m, floor, p, q, &step)) != 0)
         return refusal;
     if (slice < top + 1)
         return 7;
-    const uint32_t *list = reference_list(m, top, &all);
+    const uint32_t *list = reference_list(m, top, floor, &all);
     if (after) {
         while (list[place * (top + 1)] != p || list[place * (top + 1) + 1] != q)
             place++;
@@ -356,9 +370,10 @@ uint32_t reference_page(uint32_t m, uint32_t top, int after, uint32_t p, uint32_
 
 /* ---- points */
 
-uint32_t reference_points(uint32_t m, uint32_t p, uint32_t q, uint32_t first, uint32_t *words, size_t slice, size_t *count)
+uint32_t reference_points(uint32_t m, uint32_t floor, uint32_t p, uint32_t q, uint32_t first, uint32_t *words, size_t slice,
+                          size_t *count)
 {
-    uint32_t step, x = 1, refusal = reference_judge(m, p, q, &step), last;
+    uint32_t step, x = 1, refusal = reference_judge(m, floor, p, q, &step), last;
     if (refusal != 0)
         return refusal;
     last = ((uint32_t)1 << m) - 2;

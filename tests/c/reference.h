@@ -1,11 +1,12 @@
-/* Document 01 in plain C, slow and literal: what the library is compared with. Shares nothing with it, not the header either. */
+/* Documents 01 and 02 in plain C, slow and literal: what the library is compared with. Shares nothing with it, nor the header. */
 #ifndef REFERENCE_H
 #define REFERENCE_H
 
 #include <stddef.h>
 #include <stdint.h>
 
-enum { LEAST_DEGREE = 2, MOST_DEGREE = 16, LEAST_TOP = 3, MOST_TOP = 8, MOST_DIMENSION = 8, LONGEST_ROW = 9, MOST_ENTRIES = 15 };
+enum { LEAST_DEGREE = 2, MOST_DEGREE = 16, LEAST_TOP = 3, MOST_TOP = 8, MOST_DIMENSION = 8, MOST_FLOOR = 32 };
+enum { LONGEST_ROW = 9, MOST_ENTRIES = 15 };
 
 static inline int lawful_degree(uint32_t m)
 {
@@ -17,8 +18,13 @@ static inline int lawful_top(uint32_t top)
     return LEAST_TOP <= top && top <= MOST_TOP;
 }
 
+static inline int lawful_floor(uint32_t floor)
+{
+    return floor <= MOST_FLOOR;
+}
+
 /* Each is a refusal's number, or 0 with the answer. */
-uint32_t reference_judge(uint32_t degree, uint32_t p, uint32_t q, uint32_t *step);
+uint32_t reference_judge(uint32_t degree, uint32_t floor, uint32_t p, uint32_t q, uint32_t *step);
 uint32_t reference_quotients(uint32_t degree, uint32_t p, uint32_t q, uint32_t *largest, uint32_t *common);
 uint32_t reference_t_value(uint32_t degree, uint32_t p, uint32_t q, uint32_t dimension, uint32_t *t);
 
@@ -26,15 +32,17 @@ uint32_t reference_t_value(uint32_t degree, uint32_t p, uint32_t q, uint32_t dim
 uint32_t reference_t_by_counting(uint32_t degree, uint32_t p, uint32_t q, uint32_t dimension);
 uint32_t reference_t_by_rank(uint32_t degree, uint32_t p, uint32_t q, uint32_t dimension);
 
-/* The ranked list of a degree: its length, and its rows of top + 1 numbers one behind the other. Kept until the program ends. */
-const uint32_t *reference_list(uint32_t degree, uint32_t top, size_t *count);
+/* The ranked list of a degree at a floor: its length, and its rows of top + 1 numbers one behind the other. Kept until the program
+   ends. */
+const uint32_t *reference_list(uint32_t degree, uint32_t top, uint32_t floor, size_t *count);
 
 /* A page after the pair where `after` is not 0, else from the start; where no refusal, *rows are the rows that a slice takes. */
-uint32_t reference_page(uint32_t degree, uint32_t top, int after, uint32_t p, uint32_t q, size_t slice, const uint32_t **rows,
-                        size_t *count, uint32_t *more);
+uint32_t reference_page(uint32_t degree, uint32_t top, uint32_t floor, int after, uint32_t p, uint32_t q, size_t slice,
+                        const uint32_t **rows, size_t *count, uint32_t *more);
 
 /* The words of a period from `first` on, at most `slice` of them, into memory that takes them. */
-uint32_t reference_points(uint32_t degree, uint32_t p, uint32_t q, uint32_t first, uint32_t *words, size_t slice, size_t *count);
+uint32_t reference_points(uint32_t degree, uint32_t floor, uint32_t p, uint32_t q, uint32_t first, uint32_t *words, size_t slice,
+                          size_t *count);
 
 uint32_t reference_open(const uint8_t *file, size_t length, uint32_t *entries);
 
@@ -48,8 +56,8 @@ uint32_t reference_lookup(const uint8_t *file, size_t length, uint32_t degree, s
 /* 1 where a reader has a row at the place, which is then in `row`, top + 1 numbers; 0 at the end. */
 int reference_row(const uint8_t *body, size_t length, uint32_t degree, uint32_t top, size_t place, uint32_t *row, size_t *next);
 
-/* The catalogue of the ranked lists that the numbers degree, T, degree, T, .. ask for, for a buffer of `room` bytes. Where no refusal,
-   *file is the whole file, kept until the next call. */
-uint32_t reference_write(const uint32_t *numbers, size_t count, size_t room, const uint8_t **file, size_t *length);
+/* The catalogue of the ranked lists at a floor that the numbers degree, T, degree, T, .. ask for, for a buffer of `room` bytes. Where
+   no refusal, *file is the whole file, kept until the next call. */
+uint32_t reference_write(uint32_t floor, const uint32_t *numbers, size_t count, size_t room, const uint8_t **file, size_t *length);
 
 #endif

@@ -96,10 +96,10 @@ static void append(uint32_t number, int width)
         written[written_length++] = (uint8_t)(number >> 8 * i);
 }
 
-static void append_body(uint32_t m, uint32_t top)
+static void append_body(uint32_t m, uint32_t top, uint32_t floor)
 {
     size_t rows;
-    const uint32_t *row = reference_list(m, top, &rows);
+    const uint32_t *row = reference_list(m, top, floor, &rows);
     for (size_t r = 0; r < rows; r++, row += top + 1) {
         append(row[0] - ((uint32_t)1 << m), 2);
         append(row[1], 2);
@@ -109,7 +109,7 @@ static void append_body(uint32_t m, uint32_t top)
     }
 }
 
-uint32_t reference_write(const uint32_t *numbers, size_t count, size_t room, const uint8_t **file, size_t *length)
+uint32_t reference_write(uint32_t floor, const uint32_t *numbers, size_t count, size_t room, const uint8_t **file, size_t *length)
 {
     for (size_t i = 0; i < count; i += 2)
         if (!lawful_degree(numbers[i]))
@@ -117,6 +117,8 @@ uint32_t reference_write(const uint32_t *numbers, size_t count, size_t room, con
     for (size_t i = 0; i < count; i += 2)
         if (i + 1 == count || !lawful_top(numbers[i + 1]))
             return 2;
+    if (!lawful_floor(floor))
+        return 12;
     for (size_t i = 2; i < count; i += 2)
         if (numbers[i - 2] >= numbers[i])
             return 13;
@@ -125,7 +127,7 @@ uint32_t reference_write(const uint32_t *numbers, size_t count, size_t room, con
     append((uint32_t)count / 2, 1);
     for (size_t i = 0; i < count; i += 2) {
         size_t rows;
-        reference_list(numbers[i], numbers[i + 1], &rows);
+        reference_list(numbers[i], numbers[i + 1], floor, &rows);
         append(numbers[i], 1);
         append(numbers[i + 1], 1);
         append((uint32_t)rows, 2);
@@ -133,7 +135,7 @@ uint32_t reference_write(const uint32_t *numbers, size_t count, size_t room, con
         offset += rows * (numbers[i + 1] + 4);
     }
     for (size_t i = 0; i < count; i += 2)
-        append_body(numbers[i], numbers[i + 1]);
+        append_body(numbers[i], numbers[i + 1], floor);
     if (written_length > room)
         return 14;
     *file = written;

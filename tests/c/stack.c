@@ -1,5 +1,6 @@
 /* How much stack each call takes: it runs on a stack of its own that was filled with a pattern, and the bytes that no longer hold it
-   are counted. Prints the most for each call, over the degrees 2 to 16, beside what the header says; exit status 1 where it is more. */
+   are counted. Prints the most for each call, over the degrees 2 to 16 at the floors 0 and 32, beside what the header says; exit
+   status 1 where it is more. */
 #define _XOPEN_SOURCE 700
 #include "fenyurka.h"
 
@@ -57,7 +58,7 @@ static void page_after(void)
 
 static void judge(void)
 {
-    sink = fenyurka_judge(list.degree, rows[0], rows[1]).step;
+    sink = fenyurka_judge(list.degree, list.floor, rows[0], rows[1]).step;
 }
 
 static void quotients(void)
@@ -72,7 +73,7 @@ static void t_value(void)
 
 static void points(void)
 {
-    sink = (uint32_t)fenyurka_points(list.degree, rows[0], rows[1], 0, room, sizeof room / sizeof room[0]).count;
+    sink = (uint32_t)fenyurka_points(list.degree, list.floor, rows[0], rows[1], 0, room, sizeof room / sizeof room[0]).count;
 }
 
 static void open(void)
@@ -99,7 +100,7 @@ static void write_file(void)
         entries[n++] = m;
         entries[n++] = TOP;
     }
-    sink = (uint32_t)fenyurka_write(entries, n, buffer, sizeof buffer).length;
+    sink = (uint32_t)fenyurka_write(list.floor, entries, n, buffer, sizeof buffer).length;
 }
 
 /* More entries than a stack would hold, all of them lawful but the last. */
@@ -109,7 +110,7 @@ static void write_many(void)
     for (size_t i = 0; i < MANY; i++)
         entries[i] = 3;
     entries[MANY - 1] = 0;
-    sink = fenyurka_write(entries, MANY, buffer, sizeof buffer).refusal;
+    sink = fenyurka_write(list.floor, entries, MANY, buffer, sizeof buffer).refusal;
 }
 
 /* first_page first: the others take their pairs from its rows. */
@@ -136,11 +137,12 @@ int main(void)
 {
     size_t most[CALLS] = {0}, none = taken_by(nothing);
     int above = 0;
-    for (list.degree = 2; list.degree <= 16; list.degree++)
-        for (int i = 0; i < CALLS; i++) {
-            size_t taken = taken_by(calls[i].call) - none;
-            most[i] = taken > most[i] ? taken : most[i];
-        }
+    for (list.floor = 0; list.floor <= 32; list.floor += 32)
+        for (list.degree = 2; list.degree <= 16; list.degree++)
+            for (int i = 0; i < CALLS; i++) {
+                size_t taken = taken_by(calls[i].call) - none;
+                most[i] = taken > most[i] ? taken : most[i];
+            }
     for (int i = 0; i < CALLS; i++) {
         printf("%-23s %6zu bytes of stack, the header says less than %zu\n", calls[i].name, most[i], calls[i].stated);
         above |= most[i] >= calls[i].stated;

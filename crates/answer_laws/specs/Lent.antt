@@ -50,25 +50,25 @@ module _ (r : PageRequest) (s : List ℕ) where
 
 -- ---- points
 
-module _ (m p q first : ℕ) (s : List ℕ) where
+module _ (m floor p q first : ℕ) (s : List ℕ) where
   abbrev pub AnsweredPoints : PointsAnswer → List ℕ → Type 0
-  AnsweredPoints = Answered (pointing m p q first) NotWritten (Written (wordCount m first s)) s (over 0 (words p q first (wordCount m first s)) s)
+  AnsweredPoints = Answered (pointing m floor p q first) NotWritten (Written (wordCount m first s)) s (over 0 (words p q first (wordCount m first s)) s)
 
-  pub points-answered : AnsweredPoints (pointsAnswer m p q first s) (pointsSlice m p q first s)
+  pub points-answered : AnsweredPoints (pointsAnswer m floor p q first s) (pointsSlice m floor p q first s)
   unfolding pointsAnswer pointsSlice
   points-answered = record { answer = refl; slice = refl }
 
-  pub answers-points : {a : PointsAnswer} {t : List ℕ} → AnsweredPoints a t → (a ≡ pointsAnswer m p q first s) × (t ≡ pointsSlice m p q first s)
+  pub answers-points : {a : PointsAnswer} {t : List ℕ} → AnsweredPoints a t → (a ≡ pointsAnswer m floor p q first s) × (t ≡ pointsSlice m floor p q first s)
   unfolding pointsAnswer pointsSlice
   answers-points x = (x .answer, x .slice)
 
   -- A refused call for points leaves the slice as it was.
-  pub points-keep : {n : Refusal} → pointsAnswer m p q first s ≡ NotWritten n → pointsSlice m p q first s ≡ s
+  pub points-keep : {n : Refusal} → pointsAnswer m floor p q first s ≡ NotWritten n → pointsSlice m floor p q first s ≡ s
   points-keep = refused-keeps points-answered (λ e. let z : _≡_ {A = ℕ} 0 1 = cc in omega arith)
 
   -- Words that are given: no situation applies, and they stand over the front of the slice.
-  pub points-given : {n : ℕ} → pointsAnswer m p q first s ≡ Written n
-      → NoneApplies (pointing m p q first) × (wordCount m first s ≡ n) × (pointsSlice m p q first s ≡ over 0 (words p q first (wordCount m first s)) s)
+  pub points-given : {n : ℕ} → pointsAnswer m floor p q first s ≡ Written n
+      → NoneApplies (pointing m floor p q first) × (wordCount m first s ≡ n) × (pointsSlice m floor p q first s ≡ over 0 (words p q first (wordCount m first s)) s)
   points-given e =
       let g = given-writes points-answered (λ k d. let z : _≡_ {A = ℕ} 0 1 = cc in omega arith) e in
       let f = g .1 in
@@ -76,27 +76,27 @@ module _ (m p q first : ℕ) (s : List ℕ) where
 
 -- ---- a catalogue
 
-module _ (entries s : List ℕ) where
+module _ (floor : ℕ) (entries s : List ℕ) where
   abbrev file : List ℕ
-  file = rankedFile (entriesOf entries)
+  file = rankedFile (entriesOf floor entries)
 
   abbrev pub AnsweredFile : FileAnswer → List ℕ → Type 0
-  AnsweredFile = Answered (writing entries s) NoFile (File (length file)) s (over 0 file s)
+  AnsweredFile = Answered (writing floor entries s) NoFile (File (length file)) s (over 0 file s)
 
-  pub file-answered : AnsweredFile (fileAnswer entries s) (fileBuffer entries s)
+  pub file-answered : AnsweredFile (fileAnswer floor entries s) (fileBuffer floor entries s)
   unfolding fileAnswer fileBuffer
   file-answered = record { answer = refl; slice = refl }
 
-  pub answers-file : {a : FileAnswer} {t : List ℕ} → AnsweredFile a t → (a ≡ fileAnswer entries s) × (t ≡ fileBuffer entries s)
+  pub answers-file : {a : FileAnswer} {t : List ℕ} → AnsweredFile a t → (a ≡ fileAnswer floor entries s) × (t ≡ fileBuffer floor entries s)
   unfolding fileAnswer fileBuffer
   answers-file x = (x .answer, x .slice)
 
   -- A refused call leaves the buffer as it was.
-  pub file-keeps : {n : Refusal} → fileAnswer entries s ≡ NoFile n → fileBuffer entries s ≡ s
+  pub file-keeps : {n : Refusal} → fileAnswer floor entries s ≡ NoFile n → fileBuffer floor entries s ≡ s
   file-keeps = refused-keeps file-answered (λ e. let z : _≡_ {A = ℕ} 0 1 = cc in omega arith)
 
   -- A file that is given: no situation applies, its length is that of the file, and the file stands over the front of the buffer.
-  pub file-given : {n : ℕ} → fileAnswer entries s ≡ File n → NoneApplies (writing entries s) × (length file ≡ n) × (fileBuffer entries s ≡ over 0 file s)
+  pub file-given : {n : ℕ} → fileAnswer floor entries s ≡ File n → NoneApplies (writing floor entries s) × (length file ≡ n) × (fileBuffer floor entries s ≡ over 0 file s)
   file-given e =
       let g = given-writes file-answered (λ k d. let z : _≡_ {A = ℕ} 0 1 = cc in omega arith) e in
       let f = g .1 in

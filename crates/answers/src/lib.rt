@@ -18,6 +18,8 @@ pub fn refusal_number(refusal: Refusal) -> u32
         Refusal::BeyondPeriod => 8,
         Refusal::IllFormedCatalogue => 9,
         Refusal::DegreeMissing => 10,
+        Refusal::StepBelowFloor => 11,
+        Refusal::WrongFloor => 12,
         Refusal::NotAscending => 13,
         Refusal::FileTooLong => 14,
     }
@@ -38,6 +40,8 @@ pub fn refusal_degree(refusal: Refusal) -> u32
         Refusal::BeyondPeriod => 0,
         Refusal::IllFormedCatalogue => 0,
         Refusal::DegreeMissing => 0,
+        Refusal::StepBelowFloor => 0,
+        Refusal::WrongFloor => 0,
         Refusal::NotAscending => 0,
         Refusal::FileTooLong => 0,
     }

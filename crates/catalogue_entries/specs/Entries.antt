@@ -12,29 +12,31 @@ use Rattle.writing_laws.specs.RankedFile.{noEntry}
 use Rattle.catalogue_entries.specs.declared.Lawful.{Lawful}
 
 -- The entry at k.
-abbrev pub entryIn : List ℕ → ℕ → Selection
-entryIn e k = getD (entriesOf e) k noEntry
+abbrev pub entryIn : ℕ → List ℕ → ℕ → Selection
+entryIn floor e k = getD (entriesOf floor e) k noEntry
 
 -- What the tests of all degrees and of all T say.
 abbrev pub lawfulOf : List Selection → Lawful
 lawfulOf l = record { degrees = lawfulDegrees l; tops = lawfulTops l }
 
-pub entries-length : (e : List ℕ) → length (entriesOf e) ≡ length e / 2 + length e % 2
-unfolding entriesOf
-entries-length [] = refl
-entries-length (m ∷ []) = refl
-entries-length (m ∷ top ∷ e) = omega (arith, entries-length e)
+module _ (floor : ℕ) where
+  pub entries-length : (e : List ℕ) → length (entriesOf floor e) ≡ length e / 2 + length e % 2
+  unfolding entriesOf
+  entries-length [] = refl
+  entries-length (m ∷ []) = refl
+  entries-length (m ∷ top ∷ e) = omega (arith, entries-length e)
 
--- So the degree of an entry is there.
-pub entry-within : (e : List ℕ) (k : ℕ) → k < length (entriesOf e) → 2 * k < length e
-entry-within e k h = omega (arith, entries-length e, h)
+  -- So the degree of an entry is there.
+  pub entry-within : (e : List ℕ) (k : ℕ) → k < length (entriesOf floor e) → 2 * k < length e
+  entry-within e k h = omega (arith, entries-length e, h)
 
-pub entry-is : (e : List ℕ) (k : ℕ) → entryIn e k ≡ record { degree = getD e (2 * k) 0; top = getD e (2 * k + 1) 0 }
-unfolding entriesOf
-entry-is [] k = refl
-entry-is (m ∷ []) zero = refl
-entry-is (m ∷ []) (suc k) = simp unary-clauses
-entry-is (m ∷ top ∷ e) zero = refl
-entry-is (m ∷ top ∷ e) (suc k) =
-    let rest = entry-is e k in
-    simp unary-clauses (simp unary-clauses at rest)
+  pub entry-is : (e : List ℕ) (k : ℕ) → k < length (entriesOf floor e)
+      → entryIn floor e k ≡ record { degree = getD e (2 * k) 0; top = getD e (2 * k + 1) 0; floor = floor }
+  unfolding entriesOf
+  entry-is [] k h = absurd (omega arith)
+  entry-is (m ∷ []) zero h = refl
+  entry-is (m ∷ []) (suc k) h = absurd (omega arith)
+  entry-is (m ∷ top ∷ e) zero h = refl
+  entry-is (m ∷ top ∷ e) (suc k) h =
+      let rest = entry-is e k (omega arith) in
+      simp unary-clauses (simp unary-clauses at rest)

@@ -1,7 +1,8 @@
-// The entries that a catalogue is asked for, in a lent slice that comes unchecked: degree, T, degree, T, .. Customers call nothing here.
+// The entries that a catalogue is asked for, in a lent slice that comes unchecked: degree, T, degree, T, .., each at the floor of the file. Customers
+// call nothing here.
 ghost use mathlib.Core.Path.{_≡_};
 ghost use mathlib.Core.Bool.{_&&_};
-ghost use Prim.Native.Nat.{_+_, _<_};
+ghost use Prim.Native.Nat.{ℕ, _+_, _<_};
 ghost use lib.ListN.{length, getD};
 ghost use Rattle.definitions.specs.Writing.{entriesOf, ascending};
 ghost use Rattle.catalogue_entries.specs.Entries.{entryIn, lawfulOf};
@@ -9,7 +10,7 @@ use definitions::Selection;
 
 // How many entries there are, a last one without T included.
 pub fn count(entries: &[u32]) -> usize
-    ensures { λ r. ⌜ r ≡ length (entriesOf (now (entries .entry))) ⌝ }
+    ensures { λ r. ⌜ ((floor : ℕ) → r ≡ length (entriesOf floor (now (entries .entry)))) ⌝ }
 {
     entries.len() / 2 + entries.len() % 2
 }
@@ -26,14 +27,15 @@ fn top_behind(entries: &[u32], place: usize) -> u32
 }
 
 // The entry at k.
-pub fn entry(entries: &[u32], k: usize) -> Selection
-    requires { ⌜ k < length (entriesOf (now entries)) ⌝ }
-    ensures { λ r. ⌜ r ≡ entryIn (now (entries .entry)) k ⌝ }
+pub fn entry(floor: u32, entries: &[u32], k: usize) -> Selection
+    requires { ⌜ k < length (entriesOf floor (now entries)) ⌝ }
+    ensures { λ r. ⌜ r ≡ entryIn floor (now (entries .entry)) k ⌝ }
 {
     let place = 2 * k;
     Selection {
         degree: entries[place],
         top: top_behind(entries, place),
+        floor: floor,
     }
 }
 
@@ -52,15 +54,15 @@ fn both(a: bool, b: bool) -> bool
     false
 }
 
-pub fn are_lawful(entries: &[u32]) -> Lawful
-    ensures { λ r. ⌜ r ≡ lawfulOf (entriesOf (now (entries .entry))) ⌝ }
+pub fn are_lawful(floor: u32, entries: &[u32]) -> Lawful
+    ensures { λ r. ⌜ r ≡ lawfulOf (entriesOf floor (now (entries .entry))) ⌝ }
 {
     let n = count(entries);
     let mut degrees = true;
     let mut tops = true;
     let mut k = 0;
     while k < n {
-        let list = entry(entries, k);
+        let list = entry(floor, entries, k);
         degrees = both(degrees, limits::is_lawful_degree(list.degree));
         tops = both(tops, limits::is_lawful_top(list.top));
         k += 1;
@@ -69,13 +71,13 @@ pub fn are_lawful(entries: &[u32]) -> Lawful
 }
 
 // Whether each degree is above the one before it.
-pub fn do_ascend(entries: &[u32]) -> bool
-    ensures { λ r. ⌜ r ≡ ascending (entriesOf (now (entries .entry))) ⌝ }
+pub fn do_ascend(floor: u32, entries: &[u32]) -> bool
+    ensures { λ r. ⌜ r ≡ ascending (entriesOf floor (now (entries .entry))) ⌝ }
 {
     let n = count(entries);
     let mut k = 1;
     while k < n {
-        if entry(entries, k).degree <= entry(entries, k - 1).degree {
+        if entry(floor, entries, k).degree <= entry(floor, entries, k - 1).degree {
             return false;
         }
         k += 1;

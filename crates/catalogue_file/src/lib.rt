@@ -45,11 +45,11 @@ fn write_list(list: Selection, rows: &mut [u32], file: &mut [u8], place: usize, 
 }
 
 // Writes list after list, each body behind the one before, from behind the contents on, and each entry behind the one before.
-pub fn write_file(entries: &[u32], contents: usize, file: &mut [u8])
-    requires { ⌜ LawfulEntries 0 (entriesOf (now entries)) ⌝ }
-    requires { ⌜ contents ≡ behindLists (map rankedList (entriesOf (now entries))) firstEntry ⌝ }
-    requires { ⌜ length (rankedFile (entriesOf (now entries))) ≤ length (now file) ⌝ }
-    ensures { λ _. ⌜ now (file .exit) ≡ over 0 (rankedFile (entriesOf (now (entries .entry)))) (now (file .entry)) ⌝ }
+pub fn write_file(floor: u32, entries: &[u32], contents: usize, file: &mut [u8])
+    requires { ⌜ LawfulEntries 0 (entriesOf floor (now entries)) ⌝ }
+    requires { ⌜ contents ≡ behindLists (map rankedList (entriesOf floor (now entries))) firstEntry ⌝ }
+    requires { ⌜ length (rankedFile (entriesOf floor (now entries))) ≤ length (now file) ⌝ }
+    ensures { λ _. ⌜ now (file .exit) ≡ over 0 (rankedFile (entriesOf floor (now (entries .entry)))) (now (file .entry)) ⌝ }
 {
     let mut rows_at_hand = [0u32; NUMBERS_AT_HAND];
     let rows: &mut [u32] = &mut rows_at_hand;
@@ -59,7 +59,7 @@ pub fn write_file(entries: &[u32], contents: usize, file: &mut [u8])
     let mut at = contents;
     let mut k = 0;
     while k < n {
-        let list = entry(entries, k);
+        let list = entry(floor, entries, k);
         at = write_list(list, rows, file, place, at);
         place += sizes::entry_size(list.degree);
         k += 1;

@@ -5,7 +5,7 @@ use mathlib.Core.Bool.{true}
 use mathlib.Core.List.{List, [], _∷_, map}
 use Prim.Native.Nat.{ℕ}
 use Rattle.definitions.specs.Ranking.{ranked}
-use Rattle.definitions.specs.Examples.{calls}
+use Rattle.definitions.specs.Examples.{noFloor, calls}
 use Rattle.definitions.specs.Answers.{unless, nextRowValues}
 use Rattle.definitions.specs.Catalogue.{numberAt, numberSize, countSize, entrySize, rowSize, entryAt, behindEntries, rowForm, entryForm, entriesForm}
 use Rattle.definitions.specs.Catalogue.{catalogueForm, opening, entryFrom, entryOf, looking, lookupNumbers, lookupPart, readerTop, atRow, rowAt, nextRow}
@@ -56,6 +56,6 @@ pub printed-rows : map nextRowValues (handsOut 5 3 (readerTop printed 3) (lookup
 unfolding printed form handsOut readerTop lookupPart atRow rowAt nextRow nextPlace
 printed-rows = refl
 
-pub printed-bytes : catalogueBytes (record { degree = 3; top = 4; rows = ranked (record { degree = 3; top = 4 }) } ∷ []) ≡ printed
+pub printed-bytes : catalogueBytes (record { degree = 3; top = 4; rows = ranked (record { degree = 3; top = 4; floor = noFloor }) } ∷ []) ≡ printed
 unfolding printed form bytesOf rowBytes bodyBytes entryBytes contentsBytes behindLists catalogueBytes
 printed-bytes = refl

@@ -1,5 +1,5 @@
--- Both outputs fit their buffers, whatever the line. No file is longer than `longestFile`, and a refusal of the entries has one of the numbers 1, 2
--- and 13. Assumes nothing.
+-- Both outputs fit their buffers, whatever the line. No file is longer than `longestFile`, and a refusal of the entries or their floor has one of the
+-- numbers 1, 2, 12 and 13. Assumes nothing.
 use mathlib.Core.List.{List, [], _∷_}
 use Prim.Native.Nat.{ℕ, _^_, _≤_, _<_}
 use native.Mathlib.Omega.{arith}
@@ -13,32 +13,33 @@ use Rattle.answer_laws.specs.Unless.{Decides, here, later, decides-none, Outcom
 use Rattle.listing.specs.Texts.{refusedRoom, refused-short}
 use Rattle.writing_laws.specs.RankedFile.{entering-lawful}
 use Rattle.writing_laws.specs.Longest.{longestFile, file-longest}
-use Rattle.catalogue_line.specs.Written.{tests, said, output-some, errors-some}
+use Rattle.catalogue_line.specs.Written.{tests, said, output-is, errors-are}
 
-entering-number : {r : Refusal} (ls : List Selection) → Decides r (entering ls) → refusalNumber r < 2 ^ 32
+entering-number : {r : Refusal} (floor : ℕ) (ls : List Selection) → Decides r (entering floor ls) → refusalNumber r < 2 ^ 32
 unfolding entering
-entering-number ls (here t) = omega arith
-entering-number ls (later f (here t)) = omega arith
-entering-number ls (later f (later g (here t))) = omega arith
-entering-number ls (later f (later g (later k d))) = absurd (decides-none d)
+entering-number floor ls (here t) = omega arith
+entering-number floor ls (later f (here t)) = omega arith
+entering-number floor ls (later f (later g (here t))) = omega arith
+entering-number floor ls (later f (later g (later k (here t)))) = omega arith
+entering-number floor ls (later f (later g (later k (later o d)))) = absurd (decides-none d)
 
-pub output-fits : (e : List ℕ) → length (fileOutput e) ≤ longestFile
+pub output-fits : (n : List ℕ) → length (fileOutput n) ≤ longestFile
 unfolding fileOutput
 output-fits [] = omega arith
-output-fits (m ∷ e) = go (outcome (tests (m ∷ e)))
+output-fits (floor ∷ e) = go (outcome (tests floor e))
   where
-    go : Outcome (tests (m ∷ e)) → length (fileOutput (m ∷ e)) ≤ longestFile
-    go (is-refused d) = rw (output-some (m ∷ e) (omega arith), unless-refused (λ (r : Refusal). []) (rankedFile (entriesOf (m ∷ e))) d) (omega arith)
+    go : Outcome (tests floor e) → length (fileOutput (floor ∷ e)) ≤ longestFile
+    go (is-refused d) = rw (output-is floor e, unless-refused (λ (r : Refusal). []) (rankedFile (entriesOf floor e)) d) (omega arith)
     go (is-given n) =
-        rw (output-some (m ∷ e) (omega arith), unless-given (λ (r : Refusal). []) (rankedFile (entriesOf (m ∷ e))) n)
-        (file-longest (entriesOf (m ∷ e)) (entering-lawful (entriesOf (m ∷ e)) n))
+        rw (output-is floor e, unless-given (λ (r : Refusal). []) (rankedFile (entriesOf floor e)) n)
+        (file-longest (entriesOf floor e) (entering-lawful floor (entriesOf floor e) n))
 
-pub errors-fit : (e : List ℕ) → length (fileErrors e) ≤ refusedRoom
+pub errors-fit : (n : List ℕ) → length (fileErrors n) ≤ refusedRoom
 unfolding fileErrors
 errors-fit [] = refused-short unreadable (omega arith)
-errors-fit (m ∷ e) = go (outcome (tests (m ∷ e)))
+errors-fit (floor ∷ e) = go (outcome (tests floor e))
   where
-    go : Outcome (tests (m ∷ e)) → length (fileErrors (m ∷ e)) ≤ refusedRoom
+    go : Outcome (tests floor e) → length (fileErrors (floor ∷ e)) ≤ refusedRoom
     go (is-refused {r = r} d) =
-        rw (errors-some (m ∷ e) (omega arith), unless-refused said [] d) (refused-short (refusalNumber r) (entering-number (entriesOf (m ∷ e)) d))
-    go (is-given n) = rw (errors-some (m ∷ e) (omega arith), unless-given said [] n) (omega arith)
+        rw (errors-are floor e, unless-refused said [] d) (refused-short (refusalNumber r) (entering-number floor (entriesOf floor e) d))
+    go (is-given n) = rw (errors-are floor e, unless-given said [] n) (omega arith)

@@ -5,13 +5,13 @@ ghost use Prim.Native.Nat.{_<_, _≤_};
 ghost use lib.ListN.{length};
 ghost use Rattle.definitions.specs.Number.{over};
 ghost use Rattle.definitions.specs.Listing.{refusedText};
-ghost use Rattle.definitions.specs.Writing.{lineEntries, fileOutput, fileErrors};
+ghost use Rattle.definitions.specs.Writing.{fileNumbers, fileOutput, fileErrors};
 ghost use Rattle.listing.specs.Texts.{refusedRoom};
 ghost use Rattle.writing_laws.specs.Longest.{longestFile};
 use definitions::FileAnswer;
 
-// A degree and T for each lawful degree.
-const MOST_NUMBERS: usize = 2 * catalogue_form::MOST_ENTRIES;
+// The floor, and a degree and T for each lawful degree.
+const MOST_NUMBERS: usize = 1 + 2 * catalogue_form::MOST_ENTRIES;
 
 // More bytes than any file has, and as many as the line of a refusal has at most.
 pub const FILE_ROOM: usize = 32 << limits::LARGEST_DEGREE;
@@ -40,17 +40,17 @@ fn refuse(text: &mut [u8], number: u32) -> Output
     }
 }
 
-// The file of the entries, or the line of its refusal.
-fn write(entries: &[u32], file: &mut [u8], text: &mut [u8]) -> Output
-    requires { ⌜ 0 < length (now entries) ⌝ }
+// The file that the floor and the entries behind it ask for, or the line of its refusal.
+fn write(numbers: &[u32], file: &mut [u8], text: &mut [u8]) -> Output
+    requires { ⌜ 0 < length (now numbers) ⌝ }
     requires { ⌜ longestFile ≤ length (now file) ⌝ }
     requires { ⌜ refusedRoom ≤ length (now text) ⌝ }
-    ensures { λ r. ⌜ r .file ≡ length (fileOutput (now (entries .entry))) ⌝ }
-    ensures { λ r. ⌜ r .text ≡ length (fileErrors (now (entries .entry))) ⌝ }
-    ensures { λ _. ⌜ now (file .exit) ≡ over 0 (fileOutput (now (entries .entry))) (now (file .entry)) ⌝ }
-    ensures { λ _. ⌜ now (text .exit) ≡ over 0 (fileErrors (now (entries .entry))) (now (text .entry)) ⌝ }
+    ensures { λ r. ⌜ r .file ≡ length (fileOutput (now (numbers .entry))) ⌝ }
+    ensures { λ r. ⌜ r .text ≡ length (fileErrors (now (numbers .entry))) ⌝ }
+    ensures { λ _. ⌜ now (file .exit) ≡ over 0 (fileOutput (now (numbers .entry))) (now (file .entry)) ⌝ }
+    ensures { λ _. ⌜ now (text .exit) ≡ over 0 (fileErrors (now (numbers .entry))) (now (text .entry)) ⌝ }
 {
-    match catalogue_writer::write(entries, file) {
+    match catalogue_writer::write(numbers[0], &numbers[1..], file) {
         FileAnswer::File(length) => Output {
             file: length,
             text: 0,
@@ -63,10 +63,10 @@ fn write(entries: &[u32], file: &mut [u8], text: &mut [u8]) -> Output
 pub fn answer(input: &[u8], file: &mut [u8], text: &mut [u8]) -> Output
     requires { ⌜ longestFile ≤ length (now file) ⌝ }
     requires { ⌜ refusedRoom ≤ length (now text) ⌝ }
-    ensures { λ r. ⌜ r .file ≡ length (fileOutput (lineEntries (now (input .entry)))) ⌝ }
-    ensures { λ r. ⌜ r .text ≡ length (fileErrors (lineEntries (now (input .entry)))) ⌝ }
-    ensures { λ _. ⌜ now (file .exit) ≡ over 0 (fileOutput (lineEntries (now (input .entry)))) (now (file .entry)) ⌝ }
-    ensures { λ _. ⌜ now (text .exit) ≡ over 0 (fileErrors (lineEntries (now (input .entry)))) (now (text .entry)) ⌝ }
+    ensures { λ r. ⌜ r .file ≡ length (fileOutput (fileNumbers (now (input .entry)))) ⌝ }
+    ensures { λ r. ⌜ r .text ≡ length (fileErrors (fileNumbers (now (input .entry)))) ⌝ }
+    ensures { λ _. ⌜ now (file .exit) ≡ over 0 (fileOutput (fileNumbers (now (input .entry)))) (now (file .entry)) ⌝ }
+    ensures { λ _. ⌜ now (text .exit) ≡ over 0 (fileErrors (fileNumbers (now (input .entry)))) (now (text .entry)) ⌝ }
 {
     let mut numbers = [0u32; MOST_NUMBERS];
     let n = line::read_numbers(input, &mut numbers);

@@ -29,16 +29,16 @@ fn body_size(list: Selection) -> usize
     count_rows(list) * sizes::row_size(list.degree, list.top)
 }
 
-pub fn take_measure(entries: &[u32]) -> Measure
-    requires { ⌜ LawfulEntries 0 (entriesOf (now entries)) ⌝ }
-    ensures { λ r. ⌜ r ≡ measureOf (entriesOf (now (entries .entry))) ⌝ }
+pub fn take_measure(floor: u32, entries: &[u32]) -> Measure
+    requires { ⌜ LawfulEntries 0 (entriesOf floor (now entries)) ⌝ }
+    ensures { λ r. ⌜ r ≡ measureOf (entriesOf floor (now (entries .entry))) ⌝ }
 {
     let n = count(entries);
     let mut contents = sizes::FIRST_ENTRY;
     let mut bodies = 0;
     let mut k = 0;
     while k < n {
-        let list = entry(entries, k);
+        let list = entry(floor, entries, k);
         contents += sizes::entry_size(list.degree);
         bodies += body_size(list);
         k += 1;

@@ -3,7 +3,7 @@ use Rattle.definitions.specs.Base.{Bool, true, false, List, [], _∷_, �
 use Rattle.definitions.specs.Base.{QuotientNotLinear, StepNotCoprime, ShortSlice, BeyondPeriod, IllFormedCatalogue, DegreeMissing, Judgement}
 use Rattle.definitions.specs.Base.{Accepted, Rejected, Uniformity, Value, Undefined, PageAnswer, Page, NoPage, PointsAnswer, Written}
 use Rattle.definitions.specs.Base.{NotWritten, Opening, Entries, Closed, Lookup, Body, NoBody, Row, NextRow, Found, End, NotAscending, FileTooLong}
-use Rattle.definitions.specs.Base.{FileAnswer, File, NoFile, QuotientTest, Degrees, Untested}
+use Rattle.definitions.specs.Base.{FileAnswer, File, NoFile, QuotientTest, Degrees, Untested, StepBelowFloor, WrongFloor}
 use Rattle.definitions.specs.Number.{bit}
 
 -- The number of each refusal, as documents 01 and 02 have it.
@@ -18,6 +18,8 @@ refusalNumber ShortSlice = 7
 refusalNumber BeyondPeriod = 8
 refusalNumber IllFormedCatalogue = 9
 refusalNumber DegreeMissing = 10
+refusalNumber StepBelowFloor = 11
+refusalNumber WrongFloor = 12
 refusalNumber NotAscending = 13
 refusalNumber FileTooLong = 14
 
@@ -33,6 +35,8 @@ refusalDegree ShortSlice = 0
 refusalDegree BeyondPeriod = 0
 refusalDegree IllFormedCatalogue = 0
 refusalDegree DegreeMissing = 0
+refusalDegree StepBelowFloor = 0
+refusalDegree WrongFloor = 0
 refusalDegree NotAscending = 0
 refusalDegree FileTooLong = 0
 

@@ -15,7 +15,7 @@ pub use Rattle.definitions.specs.declared.PageRequest.{PageRequest}
 pub use Rattle.definitions.specs.declared.Refusal.{Refusal}
 pub use Rattle.definitions.specs.declared.Refusal.the-variants.{WrongDegree, WrongDimension, IllFormedPair, NotPrimitive, QuotientNotLinear}
 pub use Rattle.definitions.specs.declared.Refusal.the-variants.{StepNotCoprime, ShortSlice, BeyondPeriod, IllFormedCatalogue, DegreeMissing}
-pub use Rattle.definitions.specs.declared.Refusal.the-variants.{NotAscending, FileTooLong}
+pub use Rattle.definitions.specs.declared.Refusal.the-variants.{StepBelowFloor, WrongFloor, NotAscending, FileTooLong}
 pub use Rattle.definitions.specs.declared.Judgement.{Judgement}
 pub use Rattle.definitions.specs.declared.Judgement.the-variants.{Accepted, Rejected}
 pub use Rattle.definitions.specs.declared.QuotientTest.{QuotientTest}

@@ -1,32 +1,35 @@
 -- Judging, the quotient test, a single t-value, pages and points: what each call answers and what each lent slice holds afterwards, for every input.
 -- Assumes nothing.
 use Rattle.definitions.specs.Base.{Bool, not, List, [], _∷_, _++_, ℕ, _-_, _/_, min, ltb, length, Refusal, WrongDegree, WrongDimension}
-use Rattle.definitions.specs.Base.{IllFormedPair, NotPrimitive, QuotientNotLinear, StepNotCoprime, ShortSlice, BeyondPeriod, Selection}
+use Rattle.definitions.specs.Base.{IllFormedPair, NotPrimitive, QuotientNotLinear, StepNotCoprime, StepBelowFloor, WrongFloor, ShortSlice, BeyondPeriod, Selection}
 use Rattle.definitions.specs.Base.{Position, Start, After, PageRequest, Judgement, Accepted, Rejected, Uniformity, Value, Undefined, PageAnswer}
 use Rattle.definitions.specs.Base.{Page, NoPage, PointsAnswer, Written, NotWritten, QuotientTest, Degrees, Untested}
 use Rattle.definitions.specs.Number.{join, over}
 use Rattle.definitions.specs.Answers.{Situation, situation, unless}
-use Rattle.definitions.specs.Generator.{lawfulDegree, wellFormed, period, primitive, linearQuotients, quotientDegree, commonDegree, coprimeStep, step}
+use Rattle.definitions.specs.Generator.{lawfulDegree, lawfulFloor, wellFormed, period, primitive, linearQuotients, quotientDegree, commonDegree}
+use Rattle.definitions.specs.Generator.{coprimeStep, step, reachesFloor}
 use Rattle.definitions.specs.Points.{words}
 use Rattle.definitions.specs.Net.{tValue}
 use Rattle.definitions.specs.Pages.{page, more}
 use Rattle.definitions.specs.Ranking.{lawfulTop, lawfulDimension, rowWidth, rowKey, ranked, cutOf}
 
--- The situations that concern a pair, of a lawful degree: 3 to 6. Where some quotient is not linear, K says how bad it is.
-unfoldable pub pairSituations : ℕ → ℕ → ℕ → List Situation
-pairSituations m p q =
+-- The situations that concern a pair, of a lawful degree and at a lawful floor: 3 to 6, 11. Where some quotient is not linear, K says how bad it is.
+unfoldable pub pairSituations : ℕ → ℕ → ℕ → ℕ → List Situation
+pairSituations m floor p q =
     situation (not (wellFormed m p q)) IllFormedPair
     ∷ situation (not (primitive m p)) NotPrimitive
     ∷ situation (not (linearQuotients p q)) (QuotientNotLinear (quotientDegree p q))
     ∷ situation (not (coprimeStep m p q)) StepNotCoprime
+    ∷ situation (not (reachesFloor m floor p q)) StepBelowFloor
     ∷ []
 
--- Judging: 1, 3 to 6; else the step.
-unfoldable pub judging : ℕ → ℕ → ℕ → List Situation
-judging m p q = situation (not (lawfulDegree m)) WrongDegree ∷ pairSituations m p q
+-- Judging at a floor: 1, 12, 3 to 6, 11; else the step.
+unfoldable pub judging : ℕ → ℕ → ℕ → ℕ → List Situation
+judging m floor p q =
+    situation (not (lawfulDegree m)) WrongDegree ∷ situation (not (lawfulFloor floor)) WrongFloor ∷ pairSituations m floor p q
 
-unfoldable pub judgement : ℕ → ℕ → ℕ → Judgement
-judgement m p q = unless (judging m p q) Rejected (Accepted (step m p q))
+unfoldable pub judgement : ℕ → ℕ → ℕ → ℕ → Judgement
+judgement m floor p q = unless (judging m floor p q) Rejected (Accepted (step m p q))
 
 -- The quotient test: 1, 3; else K and the degree of the common factor.
 unfoldable pub testing : ℕ → ℕ → ℕ → List Situation
@@ -48,21 +51,22 @@ uniformity m p q s = unless (measuring m p q s) Undefined (Value (tValue m p q s
 
 -- The list that a page request means, and the request for a page of a list.
 abbrev pub selectionOf : PageRequest → Selection
-selectionOf r = record { degree = r .degree; top = r .top }
+selectionOf r = record { degree = r .degree; top = r .top; floor = r .floor }
 
 abbrev pub pageRequest : Selection → Position → PageRequest
-pageRequest l at = record { degree = l .degree; top = l .top; position = at }
+pageRequest l at = record { degree = l .degree; top = l .top; floor = l .floor; position = at }
 
--- A page: 1 and 2, then for a position after a pair 3 to 6, then 7.
-unfoldable pub positionSituations : ℕ → Position → List Situation
-positionSituations m Start = []
-positionSituations m (After p q) = pairSituations m p q
+-- A page: 1, 2 and 12, then for a position after a pair 3 to 6 and 11, then 7.
+unfoldable pub positionSituations : ℕ → ℕ → Position → List Situation
+positionSituations m floor Start = []
+positionSituations m floor (After p q) = pairSituations m floor p q
 
 unfoldable pub paging : PageRequest → List ℕ → List Situation
 paging r s =
     situation (not (lawfulDegree (r .degree))) WrongDegree
     ∷ situation (not (lawfulTop (r .top))) WrongDimension
-    ∷ positionSituations (r .degree) (r .position)
+    ∷ situation (not (lawfulFloor (r .floor))) WrongFloor
+    ∷ positionSituations (r .degree) (r .floor) (r .position)
     ++ situation (ltb (length s) (rowWidth (selectionOf r))) ShortSlice
     ∷ []
 
@@ -83,16 +87,16 @@ pageAnswer r s = unless (paging r s) NoPage (Page (length (pageRows r s)) (furth
 unfoldable pub pageSlice : PageRequest → List ℕ → List ℕ
 pageSlice r s = unless (paging r s) (λ (n : Refusal). s) (over 0 (join (pageRows r s)) s)
 
--- Points: 1, 3 to 6, 8; else words first, first + 1, .. until the slice or the period ends. The last index is 2^m - 2.
-unfoldable pub pointing : ℕ → ℕ → ℕ → ℕ → List Situation
-pointing m p q first = judging m p q ++ situation (ltb (period m - 1) first) BeyondPeriod ∷ []
+-- Points: 1, 12, 3 to 6, 11, 8; else words first, first + 1, .. until the slice or the period ends. The last index is 2^m - 2.
+unfoldable pub pointing : ℕ → ℕ → ℕ → ℕ → ℕ → List Situation
+pointing m floor p q first = judging m floor p q ++ situation (ltb (period m - 1) first) BeyondPeriod ∷ []
 
 abbrev pub wordCount : ℕ → ℕ → List ℕ → ℕ
 wordCount m first s = min (length s) (period m - first)
 
-unfoldable pub pointsAnswer : ℕ → ℕ → ℕ → ℕ → List ℕ → PointsAnswer
-pointsAnswer m p q first s = unless (pointing m p q first) NotWritten (Written (wordCount m first s))
+unfoldable pub pointsAnswer : ℕ → ℕ → ℕ → ℕ → ℕ → List ℕ → PointsAnswer
+pointsAnswer m floor p q first s = unless (pointing m floor p q first) NotWritten (Written (wordCount m first s))
 
-unfoldable pub pointsSlice : ℕ → ℕ → ℕ → ℕ → List ℕ → List ℕ
-pointsSlice m p q first s =
-    unless (pointing m p q first) (λ (n : Refusal). s) (over 0 (words p q first (wordCount m first s)) s)
+unfoldable pub pointsSlice : ℕ → ℕ → ℕ → ℕ → ℕ → List ℕ → List ℕ
+pointsSlice m floor p q first s =
+    unless (pointing m floor p q first) (λ (n : Refusal). s) (over 0 (words p q first (wordCount m first s)) s)

@@ -1,4 +1,4 @@
--- The starred examples of document 01: one table and one theorem, computed. Assumes nothing.
+-- The starred examples of document 01, read with floor 0: one table and one theorem, computed. Assumes nothing.
 use Rattle.definitions.specs.Base.{Bool, true, false, _&&_, eqb, List, [], _∷_, _++_, map, ℕ, replicate, Selection, PageRequest, Start}
 use mathlib.Core.Path.{_≡_, refl, ap₂}
 use lib.Dec.{T, eqb→eq}
@@ -8,11 +8,15 @@ use Rattle.definitions.specs.Calls.{positionSituations, paging, pageRows
 use Rattle.definitions.specs.Number.{first, every, count, numbers, keep, all, over, gcdWithin, gcd}
 use Rattle.definitions.specs.Polynomial.{_⊕_, degreeWithin, degree, byDigitsWithin, byDigits, prod, power, clear, bringDown, divide, quot, rem}
 use Rattle.definitions.specs.Generator.{wellFormed, order, primitive, found, expansionWithin, expansion, linearQuotients, highest, quotientDegree}
-use Rattle.definitions.specs.Generator.{step, coprimeStep, accepted}
+use Rattle.definitions.specs.Generator.{step, coprimeStep, accepted, reachesFloor, acceptedAt}
 use Rattle.definitions.specs.Points.{leading, state, word, words, coordinate}
 use Rattle.definitions.specs.Net.{everyShare, everyBox, inBox, isNet, tValue}
 use Rattle.definitions.specs.Pages.{before, above, insert, insertAll, sort, rest, page, more}
 use Rattle.definitions.specs.Ranking.{tValues, row, rowKey, allPairs, listedPairs, ranked, cutOf}
+
+-- The floor that document 01 is read with.
+abbrev pub noFloor : ℕ
+noFloor = 0
 
 -- What the definitions give, and what document 01 prints.
 pub record Example : Type 0 where
@@ -22,7 +26,7 @@ pub record Example : Type 0 where
 -- A pair of degree m is judged: 0, 0 and its step, or the refusal and what it carries.
 unfoldable pub judges : ℕ → ℕ → ℕ → List ℕ → Example
 unfolding judgement
-judges m p q l = record { defined = judgementValues (judgement m p q); printed = l }
+judges m p q l = record { defined = judgementValues (judgement m noFloor p q); printed = l }
 
 -- The step of a pair of degree m, accepted or not.
 unfoldable pub steps : ℕ → ℕ → ℕ → ℕ → Example
@@ -37,13 +41,13 @@ measures m p q s t = record { defined = uniformityValues (uniformity m p q s); p
 unfoldable pub lists : ℕ → ℕ → ℕ → List ℕ → List ℕ → Example
 unfolding pageAnswer pageSlice
 lists m top n answer slice =
-    let r : PageRequest = pageRequest (record { degree = m; top = top }) Start in
+    let r : PageRequest = pageRequest (record { degree = m; top = top; floor = noFloor }) Start in
     record { defined = pageValues (pageAnswer r (replicate n 0)) ++ pageSlice r (replicate n 0); printed = answer ++ slice }
 
 -- The first word of a pair of degree m.
 unfoldable pub begins : ℕ → ℕ → ℕ → ℕ → Example
 unfolding pointsSlice
-begins m p q w = record { defined = pointsSlice m p q 0 (0 ∷ []); printed = w ∷ [] }
+begins m p q w = record { defined = pointsSlice m noFloor p q 0 (0 ∷ []); printed = w ∷ [] }
 
 unfoldable pub table : List Example
 unfolding judges steps measures lists begins
@@ -96,7 +100,7 @@ agrees-equal (e ∷ l) t =
 
 -- To unfold this is to unfold all that the first four calls are defined by, so that they compute.
 unfoldable pub calls : ℕ
-unfolding first every count numbers keep all over gcdWithin gcd _⊕_ degreeWithin degree byDigitsWithin byDigits prod power clear bringDown divide quot rem wellFormed order primitive found expansionWithin expansion linearQuotients highest quotientDegree step coprimeStep accepted leading state word words coordinate everyShare everyBox inBox isNet tValue before above insert insertAll sort rest page more tValues row rowKey allPairs listedPairs ranked cutOf unless pairSituations judging judgement measuring uniformity positionSituations paging pageRows furtherRow pageAnswer pageSlice pointing pointsSlice
+unfolding first every count numbers keep all over gcdWithin gcd _⊕_ degreeWithin degree byDigitsWithin byDigits prod power clear bringDown divide quot rem wellFormed order primitive found expansionWithin expansion linearQuotients highest quotientDegree step coprimeStep accepted reachesFloor acceptedAt leading state word words coordinate everyShare everyBox inBox isNet tValue before above insert insertAll sort rest page more tValues row rowKey allPairs listedPairs ranked cutOf unless pairSituations judging judgement measuring uniformity positionSituations paging pageRows furtherRow pageAnswer pageSlice pointing pointsSlice
 calls = 0
 
 starred-test : T (agrees table)

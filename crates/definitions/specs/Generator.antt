@@ -1,5 +1,5 @@
 -- Generators: what makes a pair (p, q) of degree m well-formed, primitive and accepted; partial quotients and their degrees, the tree of pairs, the
--- step.
+-- step and its floor.
 -- Assumes nothing.
 use Rattle.definitions.specs.Base.{Bool, _&&_, List, [], _∷_, _++_, ℕ, zero, suc, _-_, _^_, max, eqb, leb, ltb}
 use Rattle.definitions.specs.Number.{first, all, gcd}
@@ -78,6 +78,21 @@ coprimeStep m p q = eqb (gcd (step m p q) (period m)) 1
 -- Accepted: p is primitive, every partial quotient of q/p has degree one, and the step is coprime to 2^m - 1.
 unfoldable pub accepted : ℕ → ℕ → ℕ → Bool
 accepted m p q = primitive m p && (linearQuotients p q && coprimeStep m p q)
+
+-- A floor is 0 to 32, the number of output digits: with a step of at least so many no output begins with digits of the one before it.
+abbrev pub largestFloor : ℕ
+largestFloor = 32
+
+abbrev pub lawfulFloor : ℕ → Bool
+lawfulFloor floor = leb floor largestFloor
+
+-- The step is at least the floor.
+unfoldable pub reachesFloor : ℕ → ℕ → ℕ → ℕ → Bool
+reachesFloor m floor p q = leb floor (step m p q)
+
+-- Accepted at a floor: accepted, and the step is at least the floor.
+unfoldable pub acceptedAt : ℕ → ℕ → ℕ → ℕ → Bool
+acceptedAt m floor p q = accepted m p q && reachesFloor m floor p q
 
 pub record Pair : Type 0 where
   pub p : ℕ

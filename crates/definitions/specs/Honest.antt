@@ -1,17 +1,20 @@
 -- Laws that keep the definitions honest: what a reader would check first. By the definitions' own cases. Assumes nothing.
-use Rattle.definitions.specs.Base.{Bool, true, false, List, [], _∷_, ℕ, zero, suc, _+_, eqb, length, drop, Refusal}
+use Rattle.definitions.specs.Base.{Bool, true, false, List, [], _∷_, map, ℕ, zero, suc, _+_, eqb, length, drop, Refusal, Position, Start, After}
+use Rattle.definitions.specs.Base.{PageRequest}
 use mathlib.Core.Path.{_≡_, refl, _∙_}
 use mathlib.Core.Bool.{and-eq-true-iff}
 use Prim.Native.Nat.{_≤_, _<_}
 use native.Mathlib.Nat.{zero-add}
 use native.Mathlib.Omega.{arith}
 use lib.Seq.{take-all, drop-at, length-take-le}
-use borrow.Author.Tests.{ltb-true, ltb-false, eqb-true}
+use borrow.Author.Tests.{ltb-true, ltb-false, eqb-true, le-leb}
 use Rattle.definitions.specs.Number.{first, all, over}
 use Rattle.definitions.specs.Answers.{refusalNumber, Situation, unless}
-use Rattle.definitions.specs.Generator.{expansion, linear, linearQuotients}
+use Rattle.definitions.specs.Generator.{expansion, linear, linearQuotients, step, reachesFloor}
 use Rattle.definitions.specs.Net.{isNet, tValue}
 use Rattle.definitions.specs.Pages.{Cut, rest, page, more}
+use Rattle.definitions.specs.Calls.{judging, pageRequest, paging, pointing}
+use Rattle.definitions.specs.Examples.{calls}
 use Rattle.definitions.specs.Writing.{entriesOf, rankedFile, lawfulDegrees, lawfulTops, ascending, entering, writing, fileBuffer}
 
 -- A page that says that nothing follows has every row above its cut.
@@ -31,6 +34,11 @@ more-leaves-out key at k l e =
 pub linear-no-common : (p q : ℕ) → linearQuotients p q ≡ true → expansion p q .common ≡ 1
 unfolding linearQuotients
 linear-no-common p q e = eqb-true (expansion p q .common) 1 (and-eq-true-iff (all linear (expansion p q .quotients)) (eqb (expansion p q .common) 1) .0 e .1)
+
+-- A step that equals the floor is large enough.
+pub floor-included : (m p q : ℕ) → reachesFloor m (step m p q) p q ≡ true
+unfolding reachesFloor
+floor-included m p q = le-leb (step m p q) (step m p q) (omega arith)
 
 first-at-most : (n a : ℕ) (test : ℕ → Bool) → first n a test ≤ a + n
 unfolding first
@@ -58,15 +66,28 @@ either-way P (s ∷ l) refuse value refused given = go (s .applies) (either-way 
     go false ih = ih
 
 -- Writing a file leaves the bytes behind it as they were.
-pub tail-stays : (e s : List ℕ) → drop (length (rankedFile (entriesOf e))) (fileBuffer e s) ≡ drop (length (rankedFile (entriesOf e))) s
+pub tail-stays : (floor : ℕ) (e s : List ℕ)
+    → drop (length (rankedFile (entriesOf floor e))) (fileBuffer floor e s) ≡ drop (length (rankedFile (entriesOf floor e))) s
 unfolding fileBuffer over
-tail-stays e s =
-    let file = rankedFile (entriesOf e) in
+tail-stays floor e s =
+    let file = rankedFile (entriesOf floor e) in
     let n = length file in
-    either-way (λ (t : List ℕ). drop n t ≡ drop n s) (writing e s) (λ (r : Refusal). s) (over 0 file s) (λ r. refl)
+    either-way (λ (t : List ℕ). drop n t ≡ drop n s) (writing floor e s) (λ (r : Refusal). s) (over 0 file s) (λ r. refl)
     (drop-at file (drop (0 + n) s) n refl ∙ rw zero-add)
 
 -- Where a T is wrong and the degrees do not ascend, the T decides.
-pub top-before-order : unless (entering (entriesOf (5 ∷ 4 ∷ 3 ∷ 9 ∷ []))) refusalNumber 0 ≡ 2
+pub top-before-order : unless (entering 0 (entriesOf 0 (5 ∷ 4 ∷ 3 ∷ 9 ∷ []))) refusalNumber 0 ≡ 2
 unfolding unless entering entriesOf lawfulDegrees lawfulTops ascending all
 top-before-order = refl
+
+-- The request for a page of degree 3.
+abbrev pageOf : ℕ → ℕ → Position → PageRequest
+pageOf top floor at = pageRequest (record { degree = 3; top = top; floor = floor }) at
+
+-- Where 12 or 11 meets another number, the order of document 02 decides: in judging, for a page, in points and in writing.
+pub floor-orders : map (λ (l : List Situation). unless l refusalNumber 0)
+    (judging 17 33 16 1 ∷ judging 3 33 16 1 ∷ judging 4 32 19 12 ∷ paging (pageOf 9 33 Start) [] ∷ paging (pageOf 4 33 (After 16 1)) []
+    ∷ paging (pageOf 4 6 (After 11 7)) [] ∷ pointing 3 6 11 7 7 ∷ entering 33 (entriesOf 33 (3 ∷ 9 ∷ [])) ∷ entering 33 (entriesOf 33 (5 ∷ 4 ∷ 3 ∷ 4 ∷ [])) ∷ [])
+    ≡ 1 ∷ 12 ∷ 6 ∷ 2 ∷ 12 ∷ 11 ∷ 11 ∷ 2 ∷ 12 ∷ []
+unfolding calls entering entriesOf lawfulDegrees lawfulTops ascending
+floor-orders = refl

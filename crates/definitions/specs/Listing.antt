@@ -25,12 +25,15 @@ digitNine = 57
 abbrev pub mostDigits : ℕ
 mostDigits = 9
 
--- What is asked where the line does not say it, T as in document 02, and the largest page size.
+-- What is asked where the line does not say it, T and the floor as in document 02, and the largest page size.
 abbrev pub defaultTop : ℕ
 defaultTop = 8
 
 abbrev pub defaultSize : ℕ
 defaultSize = 50
+
+abbrev pub defaultFloor : ℕ
+defaultFloor = 32
 
 abbrev pub largestSize : ℕ
 largestSize = 1000
@@ -70,13 +73,14 @@ lineNumbers s = elim (all isNumber (wordsOf (lineOf s))) [ true ↦ map (decimal
 unfoldable pub numbersWithin : ℕ → List ℕ → List ℕ
 numbersWithin k s = elim (leb (length (lineNumbers s)) k) [ true ↦ lineNumbers s | false ↦ [] ]
 
--- Degree, or degree and T, or degree, T and page size.
+-- Degree, T, page size and floor, or the first of these.
 unfoldable pub asked : List ℕ → Line
 asked [] = Unreadable
-asked (m ∷ []) = Asked m defaultTop defaultSize
-asked (m ∷ top ∷ []) = Asked m top defaultSize
-asked (m ∷ top ∷ size ∷ []) = Asked m top size
-asked (m ∷ top ∷ size ∷ n ∷ l) = Unreadable
+asked (m ∷ []) = Asked m defaultTop defaultSize defaultFloor
+asked (m ∷ top ∷ []) = Asked m top defaultSize defaultFloor
+asked (m ∷ top ∷ size ∷ []) = Asked m top size defaultFloor
+asked (m ∷ top ∷ size ∷ floor ∷ []) = Asked m top size floor
+asked (m ∷ top ∷ size ∷ floor ∷ n ∷ l) = Unreadable
 
 unfoldable pub readLine : List ℕ → Line
 readLine s = asked (lineNumbers s)
@@ -85,9 +89,9 @@ readLine s = asked (lineNumbers s)
 abbrev pub unreadable : ℕ
 unreadable = 0
 
--- What a line holds, as document 01's numbers: degree, T and page size, or the number of that refusal.
+-- What a line holds, as the documents' numbers: degree, T, page size and floor, or the number of that refusal.
 abbrev pub lineValues : Line → List ℕ
-lineValues (Asked m top size) = m ∷ top ∷ size ∷ []
+lineValues (Asked m top size floor) = m ∷ top ∷ size ∷ floor ∷ []
 lineValues Unreadable = unreadable ∷ []
 
 -- ---- the text
@@ -142,8 +146,8 @@ listText l size =
 -- The printed text: an unreadable line or a page size above 1000 first, then the refusals of a page that holds `size` rows, then the list.
 unfoldable pub answerText : Line → List ℕ
 answerText Unreadable = refusedText unreadable
-answerText (Asked m top size) =
-    let l : Selection = record { degree = m; top = top } in
+answerText (Asked m top size floor) =
+    let l : Selection = record { degree = m; top = top; floor = floor } in
     elim (ltb largestSize size) [
       | true ↦ refusedText unreadable
       | false ↦ unless (paging (pageRequest l Start) (replicate (size * rowWidth l) 0)) (λ (n : Refusal). refusedText (refusalNumber n)) (listText l size)

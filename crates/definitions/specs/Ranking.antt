@@ -1,7 +1,7 @@
--- The ranked list: each accepted pair among all pairs there are, in the one order. Assumes nothing.
+-- The ranked list: each pair accepted at its floor, among all pairs there are, in the one order. Assumes nothing.
 use Rattle.definitions.specs.Base.{Bool, _&&_, List, _∷_, _++_, map, ℕ, suc, _-_, _^_, leb, take, drop, Selection, Position, Start, After}
 use Rattle.definitions.specs.Number.{numbers, keep, join}
-use Rattle.definitions.specs.Generator.{Pair, period, step, accepted}
+use Rattle.definitions.specs.Generator.{Pair, period, step, acceptedAt}
 use Rattle.definitions.specs.Net.{tValue}
 use Rattle.definitions.specs.Pages.{Cut, start, after, sort}
 
@@ -48,7 +48,7 @@ allPairs m = join (map (λ (p : ℕ). map (λ (q : ℕ). record { p = p; q = q }
 
 -- The pairs that a list has. The degree is named first, so that it is computed once and not for each pair.
 unfoldable pub listedPairs : Selection → List Pair
-listedPairs l = let m : ℕ = l .degree in keep (λ (s : Pair). accepted m (s .p) (s .q)) (allPairs m)
+listedPairs l = let m : ℕ = l .degree in keep (λ (s : Pair). acceptedAt m (l .floor) (s .p) (s .q)) (allPairs m)
 
 unfoldable pub ranked : Selection → List (List ℕ)
 ranked l = sort rowKey (map (λ (s : Pair). row l (s .p) (s .q)) (listedPairs l))

@@ -1,10 +1,11 @@
 -- Writing a catalogue: the bytes of a file that holds given lists, which `Catalogue.antt` reads; the file that entries ask for; what the call answers
 -- and leaves in the lent buffer; and the program that writes a file. Assumes nothing.
 use Rattle.definitions.specs.Base.{Bool, true, not, _&&_, List, [], _∷_, _++_, map, ℕ, zero, suc, _+_, _-_, _*_, _/_, _%_, _^_, ltb, length, drop}
-use Rattle.definitions.specs.Base.{getD, Selection, Refusal, WrongDegree, WrongDimension, NotAscending, FileTooLong, FileAnswer, File, NoFile}
+use Rattle.definitions.specs.Base.{getD, Selection, Refusal, WrongDegree, WrongDimension, WrongFloor, NotAscending, FileTooLong, FileAnswer, File}
+use Rattle.definitions.specs.Base.{NoFile}
 use Rattle.definitions.specs.Number.{all, join, over}
 use Rattle.definitions.specs.Answers.{refusalNumber, Situation, situation, unless}
-use Rattle.definitions.specs.Generator.{lawfulDegree}
+use Rattle.definitions.specs.Generator.{lawfulDegree, lawfulFloor}
 use Rattle.definitions.specs.Ranking.{lawfulTop, ranksFrom, ranked}
 use Rattle.definitions.specs.Catalogue.{numberSize, countSize, offsetSize, entrySize, firstEntry, mostEntries}
 use Rattle.definitions.specs.Listing.{numbersWithin, refusedText, unreadable}
@@ -61,11 +62,11 @@ catalogueBytes ls = length ls ∷ contentsBytes ls (behindLists ls firstEntry) +
 
 -- ---- the file that is asked for
 
--- The entries of a lent slice: degree, T, degree, T, .. For a last T that is missing stands 0, which is no lawful T.
-unfoldable pub entriesOf : List ℕ → List Selection
-entriesOf [] = []
-entriesOf (m ∷ []) = record { degree = m; top = 0 } ∷ []
-entriesOf (m ∷ top ∷ e) = record { degree = m; top = top } ∷ entriesOf e
+-- The entries of a lent slice, each at the floor of the file: degree, T, degree, T, .. For a last T that is missing stands 0, which is no lawful T.
+unfoldable pub entriesOf : ℕ → List ℕ → List Selection
+entriesOf floor [] = []
+entriesOf floor (m ∷ []) = record { degree = m; top = 0; floor = floor } ∷ []
+entriesOf floor (m ∷ top ∷ e) = record { degree = m; top = top; floor = floor } ∷ entriesOf floor e
 
 -- What the file holds for an entry: the ranked list.
 unfoldable pub rankedList : Selection → Listed
@@ -89,38 +90,41 @@ ascending (l ∷ k ∷ ls) = ltb (l .degree) (k .degree) && ascending (k ∷ ls)
 
 -- ---- the call
 
--- The situations that concern the entries: 1, 2, 13.
-unfoldable pub entering : List Selection → List Situation
-entering ls =
+-- The situations that concern the entries and their floor: 1, 2, 12, 13.
+unfoldable pub entering : ℕ → List Selection → List Situation
+entering floor ls =
     situation (not (lawfulDegrees ls)) WrongDegree
     ∷ situation (not (lawfulTops ls)) WrongDimension
+    ∷ situation (not (lawfulFloor floor)) WrongFloor
     ∷ situation (not (ascending ls)) NotAscending
     ∷ []
 
 -- Writing: these, then 14 where the file is longer than the buffer.
-unfoldable pub writing : List ℕ → List ℕ → List Situation
-writing e s = entering (entriesOf e) ++ situation (ltb (length s) (length (rankedFile (entriesOf e)))) FileTooLong ∷ []
+unfoldable pub writing : ℕ → List ℕ → List ℕ → List Situation
+writing floor e s =
+    entering floor (entriesOf floor e) ++ situation (ltb (length s) (length (rankedFile (entriesOf floor e)))) FileTooLong ∷ []
 
 -- The length of the file.
-unfoldable pub fileAnswer : List ℕ → List ℕ → FileAnswer
-fileAnswer e s = unless (writing e s) NoFile (File (length (rankedFile (entriesOf e))))
+unfoldable pub fileAnswer : ℕ → List ℕ → List ℕ → FileAnswer
+fileAnswer floor e s = unless (writing floor e s) NoFile (File (length (rankedFile (entriesOf floor e))))
 
 -- The file over the front of the buffer; the bytes behind it stay.
-unfoldable pub fileBuffer : List ℕ → List ℕ → List ℕ
-fileBuffer e s = unless (writing e s) (λ (n : Refusal). s) (over 0 (rankedFile (entriesOf e)) s)
+unfoldable pub fileBuffer : ℕ → List ℕ → List ℕ → List ℕ
+fileBuffer floor e s = unless (writing floor e s) (λ (n : Refusal). s) (over 0 (rankedFile (entriesOf floor e)) s)
 
 -- ---- the program
 
--- The numbers of a line that asks for a file: at most a degree and T for each lawful degree; none where the line cannot be read or has more.
-abbrev pub lineEntries : List ℕ → List ℕ
-lineEntries s = numbersWithin (2 * mostEntries) s
+-- The numbers of a line that asks for a file: the floor, then at most a degree and T for each lawful degree; none where the line cannot be read or
+-- has more.
+abbrev pub fileNumbers : List ℕ → List ℕ
+fileNumbers s = numbersWithin (suc (2 * mostEntries)) s
 
 -- What is written for such numbers to standard output: the file, or nothing,
 unfoldable pub fileOutput : List ℕ → List ℕ
 fileOutput [] = []
-fileOutput (m ∷ e) = unless (entering (entriesOf (m ∷ e))) (λ (n : Refusal). []) (rankedFile (entriesOf (m ∷ e)))
+fileOutput (floor ∷ e) = unless (entering floor (entriesOf floor e)) (λ (n : Refusal). []) (rankedFile (entriesOf floor e))
 
 -- and to standard error: nothing, or the line of a refusal.
 unfoldable pub fileErrors : List ℕ → List ℕ
 fileErrors [] = refusedText unreadable
-fileErrors (m ∷ e) = unless (entering (entriesOf (m ∷ e))) (λ (n : Refusal). refusedText (refusalNumber n)) []
+fileErrors (floor ∷ e) = unless (entering floor (entriesOf floor e)) (λ (n : Refusal). refusedText (refusalNumber n)) []

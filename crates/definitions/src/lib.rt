@@ -1,9 +1,10 @@
 // The public types: what a customer asks with, and what each call answers. No functions.
 
-// Which ranked list is meant: its degree and its top dimension T.
+// Which ranked list is meant: its degree, its top dimension T and its floor, the smallest step that its pairs may have.
 pub struct Selection {
     pub degree: u32,
     pub top: u32,
+    pub floor: u32,
 }
 
 // Where a page begins: at the start of the ranked list, or after the pair (p, q).
@@ -12,10 +13,11 @@ pub enum Position {
     After(u32, u32),
 }
 
-// A request for a page: the degree, the top dimension T and the position.
+// A request for a page: the degree, the top dimension T, the floor and the position.
 pub struct PageRequest {
     pub degree: u32,
     pub top: u32,
+    pub floor: u32,
     pub position: Position,
 }
 
@@ -32,6 +34,8 @@ pub enum Refusal {
     BeyondPeriod,
     IllFormedCatalogue,
     DegreeMissing,
+    StepBelowFloor,
+    WrongFloor,
     NotAscending,
     FileTooLong,
 }
@@ -112,8 +116,8 @@ pub enum FileAnswer {
     NoFile(Refusal),
 }
 
-// The line that the listing reads: degree, top dimension and page size.
+// The line that the listing reads: degree, top dimension, page size and floor.
 pub enum Line {
-    Asked(u32, u32, u32),
+    Asked(u32, u32, u32, u32),
     Unreadable,
 }

@@ -12,3 +12,6 @@ fourth e = e .1 .1 .1 .0
 
 abbrev pub fifth : {A B C D E F : Type 0} → A × (B × (C × (D × (E × F)))) → E
 fifth e = e .1 .1 .1 .1 .0
+
+abbrev pub sixth : {A B C D E F G : Type 0} → A × (B × (C × (D × (E × (F × G))))) → F
+sixth e = e .1 .1 .1 .1 .1 .0

@@ -14,10 +14,10 @@ use borrow.Fn.World.{World, ArgsD}
 use Rattle.definitions.specs.Number.{over}
 use Rattle.definitions.specs.Answers.{judgementValues, quotientTestValues, uniformityValues, pageValues, pointsValues, openingValues, lookupValues}
 use Rattle.definitions.specs.Answers.{fileValues}
-use Rattle.definitions.specs.Generator.{lawfulDegree, period, tree}
+use Rattle.definitions.specs.Generator.{lawfulDegree, lawfulFloor, period, tree}
 use Rattle.definitions.specs.Points.{words}
 use Rattle.definitions.specs.Ranking.{lawfulTop}
-use Rattle.definitions.specs.Calls.{judging, testing, measuring, pageRequest, paging, pointing}
+use Rattle.definitions.specs.Calls.{judging, testing, measuring, selectionOf, pageRequest, paging, pointing}
 use Rattle.definitions.specs.Catalogue.{looking, lookupNumbers}
 use Rattle.definitions.specs.Writing.{writing}
 use Rattle.definitions.specs.declared.Refusal.{Refusal}
@@ -35,11 +35,11 @@ use Rattle.definitions.specs.declared.Position.the-variants.{Start, After}
 use Rattle.net_laws.specs.Smallest.{SmallestNet}
 use Rattle.number_laws.specs.Bounds.{LawfulDegree, LawfulTop}
 use Rattle.results.specs.Results.{value}
-use Rattle.demands.specs.Arguments.{second, fifth}
+use Rattle.demands.specs.Arguments.{second, third, sixth}
 use Rattle.demands.specs.Demand1.{Exact, LowestGiven, numberOf, formSituation, opening-exact, looking-empty, looking-exact, looking-lowest}
 use Rattle.demands.specs.Demand1.{ByTable, judging-table, paging-after-table, pointing-table}
-use Rattle.demands.specs.Demand1.{judging-exact, judging-lowest, testing-exact, testing-lowest, measuring-exact, measuring-lowest}
-use Rattle.demands.specs.Demand1.{paging-exact, paging-lowest, paging-keeps, pointing-exact, pointing-lowest, pointing-keeps}
+use Rattle.demands.specs.Demand1.{judging-exact, testing-exact, testing-lowest, measuring-exact, measuring-lowest}
+use Rattle.demands.specs.Demand1.{paging-exact, paging-keeps, pointing-exact, pointing-keeps}
 use Rattle.demands.specs.Demand1.{writing-exact, writing-lowest, writing-keeps}
 use Rattle.demands.specs.Quotients.{Tested, tested-exactly, tree-tested, plane-tested, CarriesK, carriedOf, judging-carries, pointing-carries}
 use Rattle.demands.specs.Quotients.{paging-carries, paging-first-carries}
@@ -47,6 +47,7 @@ use Rattle.demands.specs.Catalogues.{reading-exact}
 use Rattle.demands.specs.Files.{WrittenFile, written-file}
 use Rattle.demands.specs.Demand2.{Conditions, accepted-exactly, uniformity-smallest, period-written}
 use Rattle.demands.specs.Demand3.{Faithful, ReadsList, faithful-list}
+use Rattle.demands.specs.Floors.{baseJudging, basePointing, basePaging, base-judging-lowest, base-pointing-lowest, base-paging-lowest}
 use Rattle.demands.specs.Period.{FaithfulPoints, ReadsPeriod, faithful-period}
 use Rattle.generator.proofs.judge.Reads as judge
 use Rattle.quotient_test.proofs.test_quotients.Reads as test-quotients
@@ -61,21 +62,21 @@ use Rattle.catalogue_reader.proofs.reader as reader
 
 -- ---- judging
 
-module _ (κs : _) (m p q : ℕ) (r : _) (e : _) (h : judge.Post κs (m, (p, (q, tt))) r e) where
-  pub judge-exact : Exact (judging m p q) (numberOf (judgementValues r))
-  judge-exact = rw h (judging-exact m p q)
+module _ (κs : _) (m floor p q : ℕ) (r : _) (e : _) (h : judge.Post κs (m, (floor, (p, (q, tt)))) r e) where
+  pub judge-exact : Exact (judging m floor p q) (numberOf (judgementValues r))
+  judge-exact = rw h (judging-exact m floor p q)
 
-  pub judge-lowest : LowestGiven (judging m p q) (numberOf (judgementValues r))
-  judge-lowest = rw h (judging-lowest m p q)
+  pub judge-lowest : floor ≤ 1 → LowestGiven (baseJudging m p q) (numberOf (judgementValues r))
+  judge-lowest low = rw h (base-judging-lowest m floor p q low)
 
-  pub judge-table : LawfulDegree m → ByTable m p q (numberOf (judgementValues r))
-  judge-table lawful = rw h (judging-table m p q lawful)
+  pub judge-table : LawfulDegree m → lawfulFloor floor ≡ true → ByTable m floor p q (numberOf (judgementValues r))
+  judge-table lawful low = rw h (judging-table m floor p q lawful low)
 
   pub judge-carries : CarriesK m p q (numberOf (judgementValues r)) (carriedOf (judgementValues r))
-  judge-carries = rw h (judging-carries m p q)
+  judge-carries = rw h (judging-carries m floor p q)
 
-  pub judge-accepts : (σ : ℕ) → (r ≡ Accepted σ) ↔ Conditions m p q σ
-  judge-accepts σ = rw h (accepted-exactly m p q σ)
+  pub judge-accepts : (σ : ℕ) → (r ≡ Accepted σ) ↔ Conditions m floor p q σ
+  judge-accepts σ = rw h (accepted-exactly m floor p q σ)
 
 -- ---- the quotient test
 
@@ -110,26 +111,26 @@ module _ (κs : _) (m p q s : ℕ) (r : _) (e : _) (h : t-value.Post κs (m, (p,
 
 -- ---- points
 
-module _ (κs : _) (m p q first : ℕ) (lent : _) (r : _) (e : _) (h : points.Post κs (m, (p, (q, (first, (lent, tt))))) r e) where
-  pub points-exact : Exact (pointing m p q first) (numberOf (pointsValues r))
-  points-exact = rw (h .0) (pointing-exact m p q first (now lent))
+module _ (κs : _) (m floor p q first : ℕ) (lent : _) (r : _) (e : _) (h : points.Post κs (m, (floor, (p, (q, (first, (lent, tt)))))) r e) where
+  pub points-exact : Exact (pointing m floor p q first) (numberOf (pointsValues r))
+  points-exact = rw (h .0) (pointing-exact m floor p q first (now lent))
 
-  pub points-lowest : LowestGiven (pointing m p q first) (numberOf (pointsValues r))
-  points-lowest = rw (h .0) (pointing-lowest m p q first (now lent))
+  pub points-lowest : floor ≤ 1 → LowestGiven (basePointing m p q first) (numberOf (pointsValues r))
+  points-lowest low = rw (h .0) (base-pointing-lowest m floor p q low first (now lent))
 
-  pub points-table : LawfulDegree m → ByTable m p q (numberOf (pointsValues r))
-  points-table lawful = rw (h .0) (pointing-table m p q first (now lent) lawful)
+  pub points-table : LawfulDegree m → lawfulFloor floor ≡ true → ByTable m floor p q (numberOf (pointsValues r))
+  points-table lawful low = rw (h .0) (pointing-table m floor p q first (now lent) lawful low)
 
   pub points-carries : CarriesK m p q (numberOf (pointsValues r)) (carriedOf (pointsValues r))
-  points-carries = rw (h .0) (pointing-carries m p q first (now lent))
+  points-carries = rw (h .0) (pointing-carries m floor p q first (now lent))
 
-  pub points-keep : (n : Refusal) → r ≡ NotWritten n → now (fifth e) ≡ now lent
-  points-keep n d = h .1 ∙ pointing-keeps m p q first (now lent) n (sym (h .0) ∙ d)
+  pub points-keep : (n : Refusal) → r ≡ NotWritten n → now (sixth e) ≡ now lent
+  points-keep n d = h .1 ∙ pointing-keeps m floor p q first (now lent) n (sym (h .0) ∙ d)
 
 -- A pair that judging accepts, from the first word on, into a slice that is long enough.
-module _ (κs : _) (m p q : ℕ) (lent : _) (r : _) (e : _) (h : points.Post κs (m, (p, (q, (0, (lent, tt))))) r e) where
-  pub points-full : (σ : ℕ) → Conditions m p q σ → period m ≤ length (now lent) → now (fifth e) ≡ over 0 (words p q 0 (period m)) (now lent)
-  points-full σ c l = h .1 ∙ period-written m p q σ c (now lent) l
+module _ (κs : _) (m floor p q : ℕ) (lent : _) (r : _) (e : _) (h : points.Post κs (m, (floor, (p, (q, (0, (lent, tt)))))) r e) where
+  pub points-full : (σ : ℕ) → Conditions m floor p q σ → period m ≤ length (now lent) → now (sixth e) ≡ over 0 (words p q 0 (period m)) (now lent)
+  points-full σ c l = h .1 ∙ period-written m floor p q σ c (now lent) l
 
 -- ---- the catalogue
 
@@ -170,19 +171,19 @@ module _ (w : World) (κs : _) (a : ArgsD reader.signature κs) where
 
 -- ---- writing a catalogue
 
-module _ (κs : _) (entries lent : _) (r : _) (e : _) (h : write.Post κs (entries, (lent, tt)) r e) where
-  pub write-exact : Exact (writing (now entries) (now lent)) (numberOf (fileValues r))
-  write-exact = rw (h .0) (writing-exact (now entries) (now lent))
+module _ (κs : _) (floor : ℕ) (entries lent : _) (r : _) (e : _) (h : write.Post κs (floor, (entries, (lent, tt))) r e) where
+  pub write-exact : Exact (writing floor (now entries) (now lent)) (numberOf (fileValues r))
+  write-exact = rw (h .0) (writing-exact floor (now entries) (now lent))
 
-  pub write-lowest : LowestGiven (writing (now entries) (now lent)) (numberOf (fileValues r))
-  write-lowest = rw (h .0) (writing-lowest (now entries) (now lent))
+  pub write-lowest : LowestGiven (writing floor (now entries) (now lent)) (numberOf (fileValues r))
+  write-lowest = rw (h .0) (writing-lowest floor (now entries) (now lent))
 
-  pub write-keeps : (n : Refusal) → r ≡ NoFile n → now (second e) ≡ now lent
-  write-keeps n d = h .1 ∙ writing-keeps (now entries) (now lent) n (sym (h .0) ∙ d)
+  pub write-keeps : (n : Refusal) → r ≡ NoFile n → now (third e) ≡ now lent
+  write-keeps n d = h .1 ∙ writing-keeps floor (now entries) (now lent) n (sym (h .0) ∙ d)
 
   -- ROUND TRIP of `write`.
-  pub write-reads-back : (n : ℕ) → r ≡ File n → WrittenFile (now entries) (now lent) n (now (second e))
-  write-reads-back n d = rw (h .1) (written-file (now entries) (now lent) n (sym (h .0) ∙ d))
+  pub write-reads-back : (n : ℕ) → r ≡ File n → WrittenFile floor (now entries) (now lent) n (now (third e))
+  write-reads-back n d = rw (h .1) (written-file floor (now entries) (now lent) n (sym (h .0) ∙ d))
 
 -- ---- a page
 
@@ -190,15 +191,16 @@ module _ (κs : _) (request : PageRequest) (lent : _) (r : _) (e : _) (h : page.
   pub page-exact : Exact (paging request (now lent)) (numberOf (pageValues r))
   page-exact = rw (h .0) (paging-exact request (now lent))
 
-  pub page-lowest : LowestGiven (paging request (now lent)) (numberOf (pageValues r))
-  page-lowest = rw (h .0) (paging-lowest request (now lent))
+  pub page-lowest : request .floor ≤ 1 → LowestGiven (basePaging (selectionOf request) (request .position) (now lent)) (numberOf (pageValues r))
+  page-lowest low = rw (h .0) (base-paging-lowest (selectionOf request) (request .floor) low (request .position) (now lent))
 
   pub page-keeps : (n : Refusal) → r ≡ NoPage n → now (second e) ≡ now lent
   page-keeps n d = h .1 ∙ paging-keeps request (now lent) n (sym (h .0) ∙ d)
 
 module _ (κs : _) (l : Selection) (p q : ℕ) (lent : _) (r : _) (e : _) (h : page.Post κs (pageRequest l (After p q), (lent, tt)) r e) where
-  pub page-after-table : LawfulDegree (l .degree) → LawfulTop (l .top) → ByTable (l .degree) p q (numberOf (pageValues r))
-  page-after-table degree top = rw (h .0) (paging-after-table l (now lent) p q degree top)
+  pub page-after-table : LawfulDegree (l .degree) → LawfulTop (l .top) → lawfulFloor (l .floor) ≡ true
+      → ByTable (l .degree) (l .floor) p q (numberOf (pageValues r))
+  page-after-table degree top low = rw (h .0) (paging-after-table l (now lent) p q degree top low)
 
   pub page-after-carries : CarriesK (l .degree) p q (numberOf (pageValues r)) (carriedOf (pageValues r))
   page-after-carries = rw (h .0) (paging-carries l p q (now lent))
@@ -218,19 +220,20 @@ page-faithful l at s x n more left (asked-page κs lent r e h) =
     record { refusal-is = rw (h .0); count-is = rw (h .0); more-is = rw (h .0); slice-is = h .1 }
 
 -- READ BY CALLS OF `page`.
-pub page-reads-list : (l : Selection) → lawfulDegree (l .degree) ≡ true → lawfulTop (l .top) ≡ true → ReadsList l (AskedPage l)
-page-reads-list l degree dimension = faithful-list l degree dimension (page-faithful l)
+pub page-reads-list : (l : Selection) → lawfulDegree (l .degree) ≡ true → lawfulTop (l .top) ≡ true → lawfulFloor (l .floor) ≡ true
+    → ReadsList l (AskedPage l)
+page-reads-list l degree dimension floor = faithful-list l degree dimension floor (page-faithful l)
 
 -- ---- points in pieces
 
 -- Asked by `points`, its contract being met.
-pub data AskedPoints (m p q : ℕ) : ℕ → List ℕ → ℕ → ℕ → List ℕ → Type 0 where
-  asked-points : {first : ℕ} (κs : _) (lent : _) (r : _) (e : _) → points.Post κs (m, (p, (q, (first, (lent, tt))))) r e
-      → AskedPoints m p q first (now lent) (value (pointsValues r) 0) (value (pointsValues r) 2) (now (fifth e))
+pub data AskedPoints (m floor p q : ℕ) : ℕ → List ℕ → ℕ → ℕ → List ℕ → Type 0 where
+  asked-points : {first : ℕ} (κs : _) (lent : _) (r : _) (e : _) → points.Post κs (m, (floor, (p, (q, (first, (lent, tt)))))) r e
+      → AskedPoints m floor p q first (now lent) (value (pointsValues r) 0) (value (pointsValues r) 2) (now (sixth e))
 
-points-faithful : (m p q : ℕ) → FaithfulPoints m p q (AskedPoints m p q)
-points-faithful m p q first s x n left (asked-points κs lent r e h) = record { refusal-is = rw (h .0); count-is = rw (h .0); slice-is = h .1 }
+points-faithful : (m floor p q : ℕ) → FaithfulPoints m floor p q (AskedPoints m floor p q)
+points-faithful m floor p q first s x n left (asked-points κs lent r e h) = record { refusal-is = rw (h .0); count-is = rw (h .0); slice-is = h .1 }
 
 -- READ BY CALLS OF `points`.
-pub points-reads-period : (m p q σ : ℕ) → Conditions m p q σ → ReadsPeriod m p q (AskedPoints m p q)
-points-reads-period m p q σ c = faithful-period m p q σ c (points-faithful m p q)
+pub points-reads-period : (m floor p q σ : ℕ) → Conditions m floor p q σ → ReadsPeriod m p q (AskedPoints m floor p q)
+points-reads-period m floor p q σ c = faithful-period m floor p q σ c (points-faithful m floor p q)

@@ -1,18 +1,18 @@
 -- Demand 1. For every public call and every input: the refusal numbers that a call can give are the listed ones; number n is given exactly when
 -- situation n applies and none listed before it does; the value is given exactly when none applies; a refusing call changes no lent slice.
--- Each call's numbers ascend, so it is the lowest number that is given. Each situation is shown as document 01's table has it: as the definition's
--- tests, and for a pair (3 to 6) in the table's words. Assumes nothing.
+-- The order is the one in which a call lists its numbers; where these ascend it is the lowest number that is given. Each situation is shown as the
+-- documents' table has it: as the definition's tests, and for a pair (3 to 6, 11) in the table's words. Assumes nothing.
 use mathlib.Core.Path.{_≡_, refl, ap}
-use mathlib.Core.Logic.{_↔_}
+use mathlib.Core.Logic.{_↔_, inl, inr}
 use mathlib.Core.Bool.{Bool, true, not}
 use mathlib.Core.List.{List, [], _∷_, _++_, map, List·Memᴰ}
-use Prim.Native.Nat.{ℕ, _-_, _≤_, _<_}
+use Prim.Native.Nat.{ℕ, _-_, _<_}
 use native.Mathlib.Omega.{arith}
 use lib.Dec.{eqb, ltb}
 use lib.ListN.{length, getD}
 use Rattle.definitions.specs.Answers.{Situation, situation, refusalNumber, unless, judgementValues, uniformityValues, pageValues, pointsValues, openingValues}
 use Rattle.definitions.specs.Answers.{quotientTestValues, lookupValues, fileValues}
-use Rattle.definitions.specs.Generator.{lawfulDegree, wellFormed, period, primitive, linearQuotients, coprimeStep}
+use Rattle.definitions.specs.Generator.{lawfulDegree, lawfulFloor, wellFormed, period, primitive, linearQuotients, coprimeStep, reachesFloor}
 use Rattle.definitions.specs.Ranking.{lawfulTop, lawfulDimension, rowWidth}
 use Rattle.definitions.specs.Calls.{testing, quotientTest}
 use Rattle.definitions.specs.Calls.{pairSituations, judging, judgement, measuring, uniformity, selectionOf, pageRequest, positionSituations, paging, pageAnswer}
@@ -20,7 +20,8 @@ use Rattle.definitions.specs.Calls.{pageSlice, pointing, pointsAnswer, pointsSl
 use Rattle.definitions.specs.Catalogue.{catalogueForm, opening, entryOf, looking, lookupNumbers, lookupPart, readerTop}
 use Rattle.definitions.specs.Writing.{entriesOf, rankedFile, lawfulDegrees, lawfulTops, ascending, entering, writing, fileAnswer, fileBuffer}
 use Rattle.definitions.specs.declared.Refusal.{Refusal}
-use Rattle.definitions.specs.declared.Refusal.the-variants.{WrongDegree, WrongDimension, ShortSlice, BeyondPeriod, IllFormedCatalogue}
+use Rattle.definitions.specs.declared.Refusal.the-variants.{WrongDegree, WrongDimension, WrongFloor, ShortSlice, BeyondPeriod}
+use Rattle.definitions.specs.declared.Refusal.the-variants.{IllFormedCatalogue}
 use Rattle.definitions.specs.declared.Selection.{Selection}
 use Rattle.definitions.specs.declared.Position.{Position}
 use Rattle.definitions.specs.declared.Position.the-variants.{Start, After}
@@ -39,7 +40,7 @@ use Rattle.answer_laws.specs.Unless.{unless-both, unless-refused, told-refused}
 use Rattle.answer_laws.specs.Lent.{page-keeps, points-keep, file-keeps}
 use Rattle.demands.specs.Situations.{applies, numbersOf, distinct, toldApart, ascend, given, FirstToApply, Lowest, given-exactly, given-none}
 use Rattle.demands.specs.Situations.{given-listed, first-is-lowest, first-decided}
-use Rattle.demands.specs.PairTable.{PairRefused, pair-table}
+use Rattle.demands.specs.PairTable.{PairRefused, OfTable, pair-table}
 
 -- The number of an answer, by the values that it holds: that of its refusal, 0 where it has none.
 abbrev pub numberOf : List ℕ → ℕ
@@ -65,7 +66,7 @@ exact values l refuse value apart refused zero =
     same : numberOf (values (unless l refuse value)) ≡ given l
     same = unless-both (λ a n. numberOf (values a) ≡ n) l refuse value refusalNumber 0 refused zero
 
-lowest : {l : List Situation} {number : ℕ} → Exact l number → ascend 0 (numbersOf l) ≡ true → LowestGiven l number
+pub lowest : {l : List Situation} {number : ℕ} → Exact l number → ascend 0 (numbersOf l) ≡ true → LowestGiven l number
 lowest {l} {number} x a = record {
   each = λ n h. (
     λ (e : number ≡ n). first-is-lowest l a n .0 (x .each n h .0 e),
@@ -73,49 +74,54 @@ lowest {l} {number} x a = record {
   );
 }
 
--- The number is one of 3 to 6 just as the table says of the pair.
-abbrev pub ByTable : ℕ → ℕ → ℕ → ℕ → Type 0
-ByTable m p q number = (n : ℕ) → 0 < n → n ≤ 6 → (number ≡ n) ↔ PairRefused m p q n
+-- The number is one of 3 to 6 or 11 just as the table says of the pair at the floor.
+abbrev pub ByTable : ℕ → ℕ → ℕ → ℕ → ℕ → Type 0
+ByTable m floor p q number = (n : ℕ) → 0 < n → OfTable n → (number ≡ n) ↔ PairRefused m floor p q n
 
--- So it is where the pair's situations stand behind others that do not apply, and before others of higher numbers.
-by-table : (m p q : ℕ) (front rest : List Situation) {number : ℕ} → LawfulDegree m → Exact (front ++ (pairSituations m p q ++ rest)) number
-    → toldApart (front ++ (pairSituations m p q ++ rest)) ≡ true → NoneApplies front → ((r : Refusal) → Decides r rest → 6 < refusalNumber r)
-    → ByTable m p q number
-by-table m p q front rest {number} lawful x apart none higher n h k =
-    let table = pair-table m p q lawful rest higher n k in
-    let first = first-decided (front ++ (pairSituations m p q ++ rest)) apart n in (
+-- So it is where the pair's situations stand behind others that do not apply, and before others of which the table does not speak.
+by-table : (m floor p q : ℕ) (front rest : List Situation) {number : ℕ} → LawfulDegree m → Exact (front ++ (pairSituations m floor p q ++ rest)) number
+    → toldApart (front ++ (pairSituations m floor p q ++ rest)) ≡ true → NoneApplies front
+    → ((r : Refusal) → Decides r rest → OfTable (refusalNumber r) → ⊥) → ByTable m floor p q number
+by-table m floor p q front rest {number} lawful x apart none other n h k =
+    let table = pair-table m floor p q lawful rest other n k in
+    let first = first-decided (front ++ (pairSituations m floor p q ++ rest)) apart n in (
       λ (e : number ≡ n). let d = first .0 (x .each n h .0 e) in table .0 (d .0, decides-rest none (d .1), d .2),
-      λ (t : PairRefused m p q n). let d = table .1 t in x .each n h .1 (first .1 (d .0, decides-behind none (d .1), d .2)),
+      λ (t : PairRefused m floor p q n). let d = table .1 t in x .each n h .1 (first .1 (d .0, decides-behind none (d .1), d .2)),
     )
 
--- One situation of a higher number behind them.
-pub higher-last : (b : Bool) (k : Refusal) → 6 < refusalNumber k → {r : Refusal} → Decides r (situation b k ∷ []) → 6 < refusalNumber r
-higher-last b k h (here e) = h
-higher-last b k h (later e d) = absurd (decides-none d)
+-- One situation behind them of which the table does not speak.
+pub other-last : (b : Bool) (k : Refusal) → (OfTable (refusalNumber k) → ⊥) → {r : Refusal} → Decides r (situation b k ∷ []) → OfTable (refusalNumber r) → ⊥
+other-last b k h (here e) = h
+other-last b k h (later e d) = absurd (decides-none d)
+
+pub seven-other : OfTable 7 → ⊥
+seven-other (inl h) = omega arith
+seven-other (inr e) = omega arith
+
+pub eight-other : OfTable 8 → ⊥
+eight-other (inl h) = omega arith
+eight-other (inr e) = omega arith
 
 -- ---- judging
 
-module _ (m p q : ℕ) where
-  pub judging-uses : numbersOf (judging m p q) ≡ 1 ∷ 3 ∷ 4 ∷ 5 ∷ 6 ∷ []
+module _ (m floor p q : ℕ) where
+  pub judging-uses : numbersOf (judging m floor p q) ≡ 1 ∷ 12 ∷ 3 ∷ 4 ∷ 5 ∷ 6 ∷ 11 ∷ []
   unfolding judging pairSituations
   judging-uses = refl
 
-  pub judging-exact : Exact (judging m p q) (numberOf (judgementValues (judgement m p q)))
+  pub judging-exact : Exact (judging m floor p q) (numberOf (judgementValues (judgement m floor p q)))
   unfolding judging pairSituations judgement
-  judging-exact = exact judgementValues (judging m p q) Rejected _ refl (λ r. refl) refl
+  judging-exact = exact judgementValues (judging m floor p q) Rejected _ refl (λ r. refl) refl
 
-  pub judging-lowest : LowestGiven (judging m p q) (numberOf (judgementValues (judgement m p q)))
+  pub judging-table : LawfulDegree m → lawfulFloor floor ≡ true → ByTable m floor p q (numberOf (judgementValues (judgement m floor p q)))
   unfolding judging pairSituations
-  judging-lowest = lowest judging-exact refl
+  judging-table lawful low =
+      by-table m floor p q (situation (not (lawfulDegree m)) WrongDegree ∷ situation (not (lawfulFloor floor)) WrongFloor ∷ []) [] lawful judging-exact refl
+      (passes (ap not (lawfulDegree-is m .1 lawful)) (passes (ap not low) at-end)) (λ r d. absurd (decides-none d))
 
-  pub judging-table : LawfulDegree m → ByTable m p q (numberOf (judgementValues (judgement m p q)))
-  unfolding judging pairSituations
-  judging-table lawful =
-      by-table m p q (situation (not (lawfulDegree m)) WrongDegree ∷ []) [] lawful judging-exact refl (passes (ap not (lawfulDegree-is m .1 lawful)) at-end)
-      (λ r d. absurd (decides-none d))
-
-  pub judging-situations : map (applies (judging m p q)) (1 ∷ 3 ∷ 4 ∷ 5 ∷ 6 ∷ [])
-      ≡ not (lawfulDegree m) ∷ not (wellFormed m p q) ∷ not (primitive m p) ∷ not (linearQuotients p q) ∷ not (coprimeStep m p q) ∷ []
+  pub judging-situations : map (applies (judging m floor p q)) (1 ∷ 12 ∷ 3 ∷ 4 ∷ 5 ∷ 6 ∷ 11 ∷ [])
+      ≡ not (lawfulDegree m) ∷ not (lawfulFloor floor) ∷ not (wellFormed m p q) ∷ not (primitive m p) ∷ not (linearQuotients p q)
+      ∷ not (coprimeStep m p q) ∷ not (reachesFloor m floor p q) ∷ []
   unfolding judging pairSituations applies
   judging-situations = refl
 
@@ -160,28 +166,30 @@ module _ (m p q s : ℕ) where
 -- ---- a page, at the start and after a pair
 
 module _ (l : Selection) (s : List ℕ) where
-  pub paging-first-uses : numbersOf (paging (pageRequest l Start) s) ≡ 1 ∷ 2 ∷ 7 ∷ []
+  pub paging-first-uses : numbersOf (paging (pageRequest l Start) s) ≡ 1 ∷ 2 ∷ 12 ∷ 7 ∷ []
   unfolding paging positionSituations
   paging-first-uses = refl
 
-  pub paging-first-situations : map (applies (paging (pageRequest l Start) s)) (1 ∷ 2 ∷ 7 ∷ [])
-      ≡ not (lawfulDegree (l .degree)) ∷ not (lawfulTop (l .top)) ∷ ltb (length s) (rowWidth l) ∷ []
+  pub paging-first-situations : map (applies (paging (pageRequest l Start) s)) (1 ∷ 2 ∷ 12 ∷ 7 ∷ [])
+      ≡ not (lawfulDegree (l .degree)) ∷ not (lawfulTop (l .top)) ∷ not (lawfulFloor (l .floor)) ∷ ltb (length s) (rowWidth l) ∷ []
   unfolding paging positionSituations applies
   paging-first-situations = refl
 
-  pub paging-after-uses : (p q : ℕ) → numbersOf (paging (pageRequest l (After p q)) s) ≡ 1 ∷ 2 ∷ 3 ∷ 4 ∷ 5 ∷ 6 ∷ 7 ∷ []
+  pub paging-after-uses : (p q : ℕ) → numbersOf (paging (pageRequest l (After p q)) s) ≡ 1 ∷ 2 ∷ 12 ∷ 3 ∷ 4 ∷ 5 ∷ 6 ∷ 11 ∷ 7 ∷ []
   unfolding paging positionSituations pairSituations
   paging-after-uses p q = refl
 
-  pub paging-after-situations : (p q : ℕ) → map (applies (paging (pageRequest l (After p q)) s)) (1 ∷ 2 ∷ 3 ∷ 4 ∷ 5 ∷ 6 ∷ 7 ∷ [])
-      ≡ not (lawfulDegree (l .degree)) ∷ not (lawfulTop (l .top)) ∷ not (wellFormed (l .degree) p q) ∷ not (primitive (l .degree) p)
-      ∷ not (linearQuotients p q) ∷ not (coprimeStep (l .degree) p q) ∷ ltb (length s) (rowWidth l) ∷ []
+  pub paging-after-situations : (p q : ℕ) → map (applies (paging (pageRequest l (After p q)) s)) (1 ∷ 2 ∷ 12 ∷ 3 ∷ 4 ∷ 5 ∷ 6 ∷ 11 ∷ 7 ∷ [])
+      ≡ not (lawfulDegree (l .degree)) ∷ not (lawfulTop (l .top)) ∷ not (lawfulFloor (l .floor)) ∷ not (wellFormed (l .degree) p q)
+      ∷ not (primitive (l .degree) p) ∷ not (linearQuotients p q) ∷ not (coprimeStep (l .degree) p q) ∷ not (reachesFloor (l .degree) (l .floor) p q)
+      ∷ ltb (length s) (rowWidth l) ∷ []
   unfolding paging positionSituations pairSituations applies
   paging-after-situations p q = refl
 
 module _ (r : PageRequest) (s : List ℕ) where
   -- One of the two lists of numbers, as the position is.
-  paging-numbers : (test : List ℕ → Bool) → test (1 ∷ 2 ∷ 7 ∷ []) ≡ true → test (1 ∷ 2 ∷ 3 ∷ 4 ∷ 5 ∷ 6 ∷ 7 ∷ []) ≡ true → test (numbersOf (paging r s)) ≡ true
+  paging-numbers : (test : List ℕ → Bool) → test (1 ∷ 2 ∷ 12 ∷ 7 ∷ []) ≡ true → test (1 ∷ 2 ∷ 12 ∷ 3 ∷ 4 ∷ 5 ∷ 6 ∷ 11 ∷ 7 ∷ []) ≡ true
+      → test (numbersOf (paging r s)) ≡ true
   unfolding paging positionSituations pairSituations
   paging-numbers test first after = go (r .position)
     where
@@ -193,53 +201,48 @@ module _ (r : PageRequest) (s : List ℕ) where
   unfolding pageAnswer
   paging-exact = exact pageValues (paging r s) NoPage _ (paging-numbers (λ l. distinct (0 ∷ l)) refl refl) (λ n. refl) refl
 
-  pub paging-lowest : LowestGiven (paging r s) (numberOf (pageValues (pageAnswer r s)))
-  paging-lowest = lowest paging-exact (paging-numbers (ascend 0) refl refl)
-
   pub paging-keeps : (n : Refusal) → pageAnswer r s ≡ NoPage n → pageSlice r s ≡ s
   paging-keeps n = page-keeps r s
 
 module _ (l : Selection) (s : List ℕ) (p q : ℕ) where
-  pub paging-after-table : LawfulDegree (l .degree) → LawfulTop (l .top)
-      → ByTable (l .degree) p q (numberOf (pageValues (pageAnswer (pageRequest l (After p q)) s)))
+  pub paging-after-table : LawfulDegree (l .degree) → LawfulTop (l .top) → lawfulFloor (l .floor) ≡ true
+      → ByTable (l .degree) (l .floor) p q (numberOf (pageValues (pageAnswer (pageRequest l (After p q)) s)))
   unfolding paging positionSituations pairSituations
-  paging-after-table degree top =
-      by-table (l .degree) p q
-      (situation (not (lawfulDegree (l .degree))) WrongDegree ∷ situation (not (lawfulTop (l .top))) WrongDimension ∷ [])
+  paging-after-table degree top low =
+      by-table (l .degree) (l .floor) p q
+      (situation (not (lawfulDegree (l .degree))) WrongDegree ∷ situation (not (lawfulTop (l .top))) WrongDimension
+      ∷ situation (not (lawfulFloor (l .floor))) WrongFloor ∷ [])
       (situation (ltb (length s) (rowWidth l)) ShortSlice ∷ []) degree (paging-exact (pageRequest l (After p q)) s) refl
-      (passes (ap not (lawfulDegree-is (l .degree) .1 degree)) (passes (ap not (lawfulTop-is (l .top) .1 top)) at-end))
-      (λ r d. higher-last _ ShortSlice (omega arith) d)
+      (passes (ap not (lawfulDegree-is (l .degree) .1 degree)) (passes (ap not (lawfulTop-is (l .top) .1 top)) (passes (ap not low) at-end)))
+      (λ r d. other-last _ ShortSlice seven-other d)
 
 -- ---- points
 
-module _ (m p q i : ℕ) where
-  pub pointing-uses : numbersOf (pointing m p q i) ≡ 1 ∷ 3 ∷ 4 ∷ 5 ∷ 6 ∷ 8 ∷ []
+module _ (m floor p q i : ℕ) where
+  pub pointing-uses : numbersOf (pointing m floor p q i) ≡ 1 ∷ 12 ∷ 3 ∷ 4 ∷ 5 ∷ 6 ∷ 11 ∷ 8 ∷ []
   unfolding pointing judging pairSituations
   pointing-uses = refl
 
-  pub pointing-situations : map (applies (pointing m p q i)) (1 ∷ 3 ∷ 4 ∷ 5 ∷ 6 ∷ 8 ∷ [])
-      ≡ not (lawfulDegree m) ∷ not (wellFormed m p q) ∷ not (primitive m p) ∷ not (linearQuotients p q) ∷ not (coprimeStep m p q)
-      ∷ ltb (period m - 1) i ∷ []
+  pub pointing-situations : map (applies (pointing m floor p q i)) (1 ∷ 12 ∷ 3 ∷ 4 ∷ 5 ∷ 6 ∷ 11 ∷ 8 ∷ [])
+      ≡ not (lawfulDegree m) ∷ not (lawfulFloor floor) ∷ not (wellFormed m p q) ∷ not (primitive m p) ∷ not (linearQuotients p q)
+      ∷ not (coprimeStep m p q) ∷ not (reachesFloor m floor p q) ∷ ltb (period m - 1) i ∷ []
   unfolding pointing judging pairSituations applies
   pointing-situations = refl
 
   module _ (s : List ℕ) where
-    pub pointing-exact : Exact (pointing m p q i) (numberOf (pointsValues (pointsAnswer m p q i s)))
+    pub pointing-exact : Exact (pointing m floor p q i) (numberOf (pointsValues (pointsAnswer m floor p q i s)))
     unfolding pointing judging pairSituations pointsAnswer
-    pointing-exact = exact pointsValues (pointing m p q i) NotWritten _ refl (λ r. refl) refl
+    pointing-exact = exact pointsValues (pointing m floor p q i) NotWritten _ refl (λ r. refl) refl
 
-    pub pointing-lowest : LowestGiven (pointing m p q i) (numberOf (pointsValues (pointsAnswer m p q i s)))
+    pub pointing-table : LawfulDegree m → lawfulFloor floor ≡ true → ByTable m floor p q (numberOf (pointsValues (pointsAnswer m floor p q i s)))
     unfolding pointing judging pairSituations
-    pointing-lowest = lowest pointing-exact refl
+    pointing-table lawful low =
+        by-table m floor p q (situation (not (lawfulDegree m)) WrongDegree ∷ situation (not (lawfulFloor floor)) WrongFloor ∷ [])
+        (situation (ltb (period m - 1) i) BeyondPeriod ∷ []) lawful pointing-exact refl
+        (passes (ap not (lawfulDegree-is m .1 lawful)) (passes (ap not low) at-end)) (λ r d. other-last _ BeyondPeriod eight-other d)
 
-    pub pointing-table : LawfulDegree m → ByTable m p q (numberOf (pointsValues (pointsAnswer m p q i s)))
-    unfolding pointing judging pairSituations
-    pointing-table lawful =
-        by-table m p q (situation (not (lawfulDegree m)) WrongDegree ∷ []) (situation (ltb (period m - 1) i) BeyondPeriod ∷ []) lawful pointing-exact refl
-        (passes (ap not (lawfulDegree-is m .1 lawful)) at-end) (λ r d. higher-last _ BeyondPeriod (omega arith) d)
-
-    pub pointing-keeps : (n : Refusal) → pointsAnswer m p q i s ≡ NotWritten n → pointsSlice m p q i s ≡ s
-    pointing-keeps n = points-keep m p q i s
+    pub pointing-keeps : (n : Refusal) → pointsAnswer m floor p q i s ≡ NotWritten n → pointsSlice m floor p q i s ≡ s
+    pointing-keeps n = points-keep m floor p q i s
 
 -- ---- the catalogue
 
@@ -275,26 +278,26 @@ module _ (s : List ℕ) (m : ℕ) where
       let t = told-refused (looking s m) e (λ d. let z : _≡_ {A = ℕ} 0 1 = cc in omega arith) in
       (unless-refused (λ (k : Refusal). []) _ (t .1), unless-refused (λ (k : Refusal). 0) _ (t .1))
 
--- ---- writing a catalogue: its entries e, the buffer s
+-- ---- writing a catalogue: the floor, its entries e, the buffer s
 
-module _ (e s : List ℕ) where
-  pub writing-uses : numbersOf (writing e s) ≡ 1 ∷ 2 ∷ 13 ∷ 14 ∷ []
+module _ (floor : ℕ) (e s : List ℕ) where
+  pub writing-uses : numbersOf (writing floor e s) ≡ 1 ∷ 2 ∷ 12 ∷ 13 ∷ 14 ∷ []
   unfolding writing entering
   writing-uses = refl
 
-  pub writing-exact : Exact (writing e s) (numberOf (fileValues (fileAnswer e s)))
+  pub writing-exact : Exact (writing floor e s) (numberOf (fileValues (fileAnswer floor e s)))
   unfolding writing entering fileAnswer
-  writing-exact = exact fileValues (writing e s) NoFile _ refl (λ r. refl) refl
+  writing-exact = exact fileValues (writing floor e s) NoFile _ refl (λ r. refl) refl
 
-  pub writing-lowest : LowestGiven (writing e s) (numberOf (fileValues (fileAnswer e s)))
+  pub writing-lowest : LowestGiven (writing floor e s) (numberOf (fileValues (fileAnswer floor e s)))
   unfolding writing entering
   writing-lowest = lowest writing-exact refl
 
-  pub writing-situations : map (applies (writing e s)) (1 ∷ 2 ∷ 13 ∷ 14 ∷ [])
-      ≡ not (lawfulDegrees (entriesOf e)) ∷ not (lawfulTops (entriesOf e)) ∷ not (ascending (entriesOf e))
-      ∷ ltb (length s) (length (rankedFile (entriesOf e))) ∷ []
+  pub writing-situations : map (applies (writing floor e s)) (1 ∷ 2 ∷ 12 ∷ 13 ∷ 14 ∷ [])
+      ≡ not (lawfulDegrees (entriesOf floor e)) ∷ not (lawfulTops (entriesOf floor e)) ∷ not (lawfulFloor floor) ∷ not (ascending (entriesOf floor e))
+      ∷ ltb (length s) (length (rankedFile (entriesOf floor e))) ∷ []
   unfolding writing entering applies
   writing-situations = refl
 
-  pub writing-keeps : (n : Refusal) → fileAnswer e s ≡ NoFile n → fileBuffer e s ≡ s
-  writing-keeps n = file-keeps e s
+  pub writing-keeps : (n : Refusal) → fileAnswer floor e s ≡ NoFile n → fileBuffer floor e s ≡ s
+  writing-keeps n = file-keeps floor e s

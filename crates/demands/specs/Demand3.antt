@@ -1,6 +1,6 @@
--- Demand 3. For one lawful degree and top dimension: the first page, then the page after the last row received, until nothing follows, each call with
+-- Demand 3, at every lawful floor. For one degree, top dimension and floor: the first page, then the page after the last row received, until nothing follows, each call with
 -- a slice of its own that holds at least one row. No call is refused; the answers that say that more follows are at most as many as there are
--- rows, so the walk ends; and then its pages joined are the whole ranked list, which has each accepted pair among all pairs exactly once, in the one
+-- rows, so the walk ends; and then its pages joined are the whole ranked list, which has each pair accepted at the floor, among all pairs, exactly once, in the one
 -- order. By what a walk has come to, call by call. Assumes nothing.
 use mathlib.Core.Path.{_≡_, refl}
 use mathlib.Core.Logic.{_⊎_, inl, inr}
@@ -11,7 +11,7 @@ use native.Mathlib.Omega.{arith}
 use lib.ListN.{length, take, length-append}
 use Rattle.definitions.specs.Number.{bit, join}
 use Rattle.definitions.specs.Answers.{pageValues}
-use Rattle.definitions.specs.Generator.{Pair, lawfulDegree, wellFormed, accepted}
+use Rattle.definitions.specs.Generator.{Pair, lawfulDegree, lawfulFloor, wellFormed, acceptedAt}
 use Rattle.definitions.specs.Pages.{start}
 use Rattle.definitions.specs.Ranking.{lawfulTop, rowWidth, row, rowKey, ranked}
 use Rattle.definitions.specs.Calls.{pageRequest, pageRows, furtherRow, pageAnswer, pageSlice}
@@ -26,11 +26,12 @@ use Rattle.ranking_laws.specs.Ranked.{RankedRow, ranked-is, ranked-ascends, ran
 use Rattle.ranking_laws.specs.Reading.{afterLast, ComeTo, come-to-start, come-to-front, come-to-few}
 use Rattle.ranking_laws.specs.Session.{page-answered, page-goes-on, page-ends}
 
--- The rows of a selected list: strictly ascending by the key, and a row is among them exactly where its pair is accepted; so each once.
+-- The rows of a selected list: strictly ascending by the key, and a row is among them exactly where its pair is accepted at the floor; so each once.
 pub record WholeList (l : Selection) (rows : List (List ℕ)) : Type 0 where
   pub ascends : Ascends rowKey start rows
   pub once : List·Nodup rows
-  pub each : (s : Pair) → wellFormed (l .degree) (s .p) (s .q) ≡ true → accepted (l .degree) (s .p) (s .q) ≡ true → List·Memᴰ (row l (s .p) (s .q)) rows
+  pub each : (s : Pair) → wellFormed (l .degree) (s .p) (s .q) ≡ true → acceptedAt (l .degree) (l .floor) (s .p) (s .q) ≡ true
+      → List·Memᴰ (row l (s .p) (s .q)) rows
   pub only : (r : List ℕ) → List·Memᴰ r rows → RankedRow l r
 
 pub ranked-whole : (l : Selection) → WholeList l (ranked l)
@@ -128,18 +129,18 @@ bit-either : (b : Bool) → (bit b ≡ 0) ⊎ (bit b ≡ 1)
 bit-either true = inr refl
 bit-either false = inl refl
 
-module _ (l : Selection) (degree : lawfulDegree (l .degree) ≡ true) (dimension : lawfulTop (l .top) ≡ true) where
+module _ (l : Selection) (degree : lawfulDegree (l .degree) ≡ true) (dimension : lawfulTop (l .top) ≡ true) (floor : lawfulFloor (l .floor) ≡ true) where
   -- What a call says at a position that a walk has come to.
   module _ {at : Position} {ps : Received} (r : ComeTo (ruleOf l) at ps) {s left : List ℕ} {x n more : ℕ} (room : rowWidth l ≤ length s)
       (d : DefinedPage l at s x n more left) where
     no-refusal : x ≡ 0
-    no-refusal = rw (page-answered l degree dimension r s room) at (d .refusal-is)
+    no-refusal = rw (page-answered l degree dimension floor r s room) at (d .refusal-is)
 
     count-told : n ≡ length (pageRows (pageRequest l at) s)
-    count-told = rw (page-answered l degree dimension r s room) at (d .count-is)
+    count-told = rw (page-answered l degree dimension floor r s room) at (d .count-is)
 
     more-told : more ≡ bit (furtherRow (pageRequest l at) s)
-    more-told = rw (page-answered l degree dimension r s room) at (d .more-is)
+    more-told = rw (page-answered l degree dimension floor r s room) at (d .more-is)
 
   module _ {call : PageCall} (f : Faithful l call) where
     come-to : {at : Position} {ps : Received} → Walked (rowWidth l) call at ps → ComeTo (ruleOf l) at ps
@@ -147,13 +148,13 @@ module _ (l : Selection) (degree : lawfulDegree (l .degree) ≡ true) (dimension
     come-to (more-follows {at = at} {s = s} {left = left} {n = n} w room c) =
         let r = come-to w in
         let d = f at s 0 n 1 left c in
-        rw (count-told r room d, d .slice-is) (page-goes-on l degree dimension r s room (bit-one _ (more-told r room d)))
+        rw (count-told r room d, d .slice-is) (page-goes-on l degree dimension floor r s room (bit-one _ (more-told r room d)))
 
     come-whole : {ps : Received} → Ended (rowWidth l) call ps → join ps ≡ ranked l
     come-whole (nothing-follows {at = at} {s = s} {left = left} {n = n} w room c) =
         let r = come-to w in
         let d = f at s 0 n 0 left c in
-        rw (count-told r room d, d .slice-is) (page-ends l degree dimension r s room (bit-zero _ (more-told r room d)))
+        rw (count-told r room d, d .slice-is) (page-ends l degree dimension floor r s room (bit-zero _ (more-told r room d)))
 
     pub faithful-list : ReadsList l call
     faithful-list = record {

@@ -10,7 +10,7 @@ use lib.Dec.{ltb}
 use lib.ListN.{length, take, drop, getD, replicate, List·getD-eq-default}
 use lib.Seq.{take-at, drop-at}
 use Rattle.definitions.specs.Number.{all}
-use Rattle.definitions.specs.Generator.{lawfulDegree}
+use Rattle.definitions.specs.Generator.{largestFloor, lawfulDegree}
 use Rattle.definitions.specs.Ranking.{lawfulTop, ranked}
 use Rattle.definitions.specs.Catalogue.{catalogueForm, opening, lookupNumbers}
 use Rattle.definitions.specs.Writing.{entriesOf, rankedList, rankedFile, lawfulDegrees, lawfulTops, ascending, entering, writing, fileAnswer, fileBuffer}
@@ -20,7 +20,7 @@ use Rattle.definitions.specs.declared.NextRow.the-variants.{Found, End}
 use Rattle.definitions.specs.declared.Opening.the-variants.{Entries}
 use Rattle.definitions.specs.declared.Lookup.the-variants.{Body, NoBody}
 use Rattle.definitions.specs.declared.Refusal.the-variants.{DegreeMissing}
-use borrow.Author.Tests.{ltb-true, ltb-false, lt-ltb, le-ltb}
+use borrow.Author.Tests.{ltb-true, ltb-false, lt-ltb, le-ltb, leb-false, lt-leb, not-true}
 use Rattle.number_laws.specs.Truth.{by-test}
 use Rattle.slice_laws.specs.Over.{over-front}
 use Rattle.answer_laws.specs.Unless.{none-front}
@@ -28,7 +28,7 @@ use Rattle.answer_laws.specs.Lent.{file-given}
 use Rattle.catalogue_laws.specs.Rows.{rowOf}
 use Rattle.writing_laws.specs.Held.{readBy, heldIn}
 use Rattle.writing_laws.specs.RankedFile.{LawfulEntries, noEntry, entering-lawful, file-form, file-opens, file-held, file-numbers, file-rows, file-missing}
-use Rattle.catalogue_entries.specs.Entries.{entries-length, entry-is}
+use Rattle.catalogue_entries.specs.Entries.{entryIn, entries-length, entry-is}
 use Rattle.demands.specs.Situations.{applies}
 
 -- ---- the situations, in the words of document 02
@@ -66,7 +66,7 @@ falls-not (x ∷ []) k h f = absurd (omega arith)
 falls-not (x ∷ y ∷ l) zero h f = rw (le-ltb (x .degree) (y .degree) f)
 falls-not (x ∷ y ∷ l) (suc k) h f = by-test (ltb (x .degree) (y .degree)) (λ t. rw t (falls-not (y ∷ l) k (omega arith) f)) (λ n. rw n)
 
-module _ (e s : List ℕ) where
+module _ (floor : ℕ) (e s : List ℕ) where
   -- The degree of the entry at k, and its T.
   abbrev degreeAt : ℕ → ℕ
   degreeAt k = getD e (2 * k) 0
@@ -74,44 +74,56 @@ module _ (e s : List ℕ) where
   abbrev topAt : ℕ → ℕ
   topAt k = getD e (2 * k + 1) 0
 
-  within : (k : ℕ) → (k < length (entriesOf e)) ↔ (2 * k < length e)
-  within k = (λ h. omega (arith, entries-length e), λ h. omega (arith, entries-length e))
+  within : (k : ℕ) → (k < length (entriesOf floor e)) ↔ (2 * k < length e)
+  within k = (λ h. omega (arith, entries-length floor e), λ h. omega (arith, entries-length floor e))
 
   -- 1 applies exactly where a degree is wrong, that of a last entry without T included;
-  pub wrong-degree : (applies (writing e s) 1 ≡ true) ↔ ((k : ℕ) × (2 * k < length e) × (lawfulDegree (degreeAt k) ≡ false))
+  pub wrong-degree : (applies (writing floor e s) 1 ≡ true) ↔ ((k : ℕ) × (2 * k < length e) × (lawfulDegree (degreeAt k) ≡ false))
   unfolding writing entering applies lawfulDegrees
   wrong-degree = (
-    λ a. let r = one-fails (λ (l : Selection). lawfulDegree (l .degree)) noEntry (entriesOf e) a in
-        (r .0, within (r .0) .0 (r .1), rw (entry-is e (r .0)) at (r .2)),
-    λ r. fails-all (λ (l : Selection). lawfulDegree (l .degree)) noEntry (entriesOf e) (r .0) (within (r .0) .1 (r .1)) (rw (entry-is e (r .0)) (r .2)),
+    λ a. let r = one-fails (λ (l : Selection). lawfulDegree (l .degree)) noEntry (entriesOf floor e) a in
+        (r .0, within (r .0) .0 (r .1), rw (entry-is floor e (r .0) (r .1)) at (r .2)),
+    λ r. let h = within (r .0) .1 (r .1) in
+        fails-all (λ (l : Selection). lawfulDegree (l .degree)) noEntry (entriesOf floor e) (r .0) h (rw (entry-is floor e (r .0) h) (r .2)),
   )
 
   -- 2 exactly where a T is missing or wrong;
-  pub wrong-top : (applies (writing e s) 2 ≡ true) ↔ ((k : ℕ) × (2 * k < length e) × ((length e ≡ 2 * k + 1) ⊎ (lawfulTop (topAt k) ≡ false)))
+  pub wrong-top : (applies (writing floor e s) 2 ≡ true) ↔ ((k : ℕ) × (2 * k < length e) × ((length e ≡ 2 * k + 1) ⊎ (lawfulTop (topAt k) ≡ false)))
   unfolding writing entering applies lawfulTops
   wrong-top = (
-    λ a. let r = one-fails (λ (l : Selection). lawfulTop (l .top)) noEntry (entriesOf e) a in
-        (r .0, within (r .0) .0 (r .1), inr (rw (entry-is e (r .0)) at (r .2))),
+    λ a. let r = one-fails (λ (l : Selection). lawfulTop (l .top)) noEntry (entriesOf floor e) a in
+        (r .0, within (r .0) .0 (r .1), inr (rw (entry-is floor e (r .0) (r .1)) at (r .2))),
     λ r. let wrong = fails (r .0) (r .2) in
-        fails-all (λ (l : Selection). lawfulTop (l .top)) noEntry (entriesOf e) (r .0) (within (r .0) .1 (r .1)) (rw (entry-is e (r .0)) wrong),
+        let h = within (r .0) .1 (r .1) in
+        fails-all (λ (l : Selection). lawfulTop (l .top)) noEntry (entriesOf floor e) (r .0) h (rw (entry-is floor e (r .0) h) wrong),
   )
     where
       fails : (k : ℕ) → (length e ≡ 2 * k + 1) ⊎ (lawfulTop (topAt k) ≡ false) → lawfulTop (topAt k) ≡ false
       fails k (inl missing) = rw (List·getD-eq-default e 0 {n = 2 * k + 1} (omega arith))
       fails k (inr wrong) = wrong
 
+  -- 12 exactly where the floor is above the largest;
+  pub wrong-floor : (applies (writing floor e s) 12 ≡ true) ↔ (largestFloor < floor)
+  unfolding writing entering applies
+  wrong-floor = (λ a. leb-false floor largestFloor (not-true _ a), λ h. ap not (lt-leb floor largestFloor h))
+
   -- 13 exactly where a degree is not above the one before it;
-  pub not-ascending : (applies (writing e s) 13 ≡ true) ↔ ((k : ℕ) × (2 * suc k < length e) × (degreeAt (suc k) ≤ degreeAt k))
+  pub not-ascending : (applies (writing floor e s) 13 ≡ true) ↔ ((k : ℕ) × (2 * suc k < length e) × (degreeAt (suc k) ≤ degreeAt k))
   unfolding writing entering applies
   not-ascending = (
-    λ a. let r = one-falls (entriesOf e) a in (r .0, within (suc (r .0)) .0 (r .1), rw (entry-is e (r .0), entry-is e (suc (r .0))) at (r .2)),
-    λ r. falls-not (entriesOf e) (r .0) (within (suc (r .0)) .1 (r .1)) (rw (entry-is e (r .0), entry-is e (suc (r .0))) (r .2)),
+    λ a. let r = one-falls (entriesOf floor e) a in
+        (r .0, within (suc (r .0)) .0 (r .1), rw (before (r .0) (r .1), entry-is floor e (suc (r .0)) (r .1)) at (r .2)),
+    λ r. let h = within (suc (r .0)) .1 (r .1) in
+        falls-not (entriesOf floor e) (r .0) h (rw (before (r .0) h, entry-is floor e (suc (r .0)) h) (r .2)),
   )
+    where
+      before : (k : ℕ) → suc k < length (entriesOf floor e) → entryIn floor e k ≡ record { degree = degreeAt k; top = topAt k; floor = floor }
+      before k h = entry-is floor e k (omega (arith, h))
 
   -- and 14 exactly where the file is longer than the buffer.
-  pub too-long : (applies (writing e s) 14 ≡ true) ↔ (length s < length (rankedFile (entriesOf e)))
+  pub too-long : (applies (writing floor e s) 14 ≡ true) ↔ (length s < length (rankedFile (entriesOf floor e)))
   unfolding writing entering applies
-  too-long = (ltb-true (length s) (length (rankedFile (entriesOf e))), lt-ltb (length s) (length (rankedFile (entriesOf e))))
+  too-long = (ltb-true (length s) (length (rankedFile (entriesOf floor e))), lt-ltb (length s) (length (rankedFile (entriesOf floor e))))
 
 -- ---- the round trip
 
@@ -137,21 +149,21 @@ reads-back ls h = record {
 }
 
 -- The first n bytes of the buffer are the file, and those behind them are what they were.
-pub record WrittenFile (e s : List ℕ) (n : ℕ) (t : List ℕ) : Type 0 where
-  pub file : take n t ≡ rankedFile (entriesOf e)
+pub record WrittenFile (floor : ℕ) (e s : List ℕ) (n : ℕ) (t : List ℕ) : Type 0 where
+  pub file : take n t ≡ rankedFile (entriesOf floor e)
   pub behind : drop n t ≡ drop n s
-  pub back : ReadsBack (entriesOf e) (take n t)
+  pub back : ReadsBack (entriesOf floor e) (take n t)
 
-pub written-file : (e s : List ℕ) (n : ℕ) → fileAnswer e s ≡ File n → WrittenFile e s n (fileBuffer e s)
+pub written-file : (floor : ℕ) (e s : List ℕ) (n : ℕ) → fileAnswer floor e s ≡ File n → WrittenFile floor e s n (fileBuffer floor e s)
 unfolding writing
-written-file e s n given =
-    let file = rankedFile (entriesOf e) in
-    let g = file-given e s given in
-    let buffer : fileBuffer e s ≡ file ++ drop (length file) s = g .2 ∙ over-front file s in
-    let lawful = entering-lawful (entriesOf e) (none-front (entering (entriesOf e)) _ (g .0)) in
-    let front : take n (fileBuffer e s) ≡ file = ap (take n) buffer ∙ take-at file (drop (length file) s) n (g .1) in
+written-file floor e s n given =
+    let file = rankedFile (entriesOf floor e) in
+    let g = file-given floor e s given in
+    let buffer : fileBuffer floor e s ≡ file ++ drop (length file) s = g .2 ∙ over-front file s in
+    let lawful = entering-lawful floor (entriesOf floor e) (none-front (entering floor (entriesOf floor e)) _ (g .0)) in
+    let front : take n (fileBuffer floor e s) ≡ file = ap (take n) buffer ∙ take-at file (drop (length file) s) n (g .1) in
     record {
       file = front;
       behind = ap (drop n) buffer ∙ drop-at file (drop (length file) s) n (g .1) ∙ ap (λ (k : ℕ). drop k s) (g .1);
-      back = subst (ReadsBack (entriesOf e)) (sym front) (reads-back (entriesOf e) lawful);
+      back = subst (ReadsBack (entriesOf floor e)) (sym front) (reads-back (entriesOf floor e) lawful);
     }

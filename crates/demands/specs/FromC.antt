@@ -13,7 +13,7 @@ use lib.ListN.{length}
 use denote.Ref.{now}
 use Rattle.definitions.specs.Number.{over}
 use Rattle.definitions.specs.Answers.{judgementValues, quotientTestValues, uniformityValues, pageValues, pointsValues, lookupValues, fileValues}
-use Rattle.definitions.specs.Generator.{lawfulDegree, period, quotientDegree, commonDegree, step}
+use Rattle.definitions.specs.Generator.{lawfulDegree, lawfulFloor, period, quotientDegree, commonDegree, step}
 use Rattle.definitions.specs.Points.{words}
 use Rattle.definitions.specs.Ranking.{lawfulTop}
 use Rattle.definitions.specs.Catalogue.{looking, lookupNumbers}
@@ -55,37 +55,39 @@ use Rattle.interface.proofs.fenyurka_points.Reads as c-points
 use Rattle.interface.proofs.fenyurka_open.Reads as c-open
 use Rattle.interface.proofs.fenyurka_lookup.Reads as c-lookup
 use Rattle.interface.proofs.fenyurka_write.Reads as c-write
-use Rattle.demands.specs.Arguments.{second, fourth, fifth}
+use Rattle.demands.specs.Arguments.{second, third, fourth, sixth}
 use Rattle.demands.specs.Demand1.{Exact, LowestGiven, ByTable, numberOf, formSituation, opening-exact, looking-exact, looking-lowest}
-use Rattle.demands.specs.Demand1.{judging-exact, judging-lowest, judging-table, measuring-exact, measuring-lowest, paging-exact, paging-lowest}
-use Rattle.demands.specs.Demand1.{paging-after-table, pointing-exact, pointing-lowest, pointing-table}
+use Rattle.demands.specs.Demand1.{judging-exact, judging-table, measuring-exact, measuring-lowest, paging-exact}
+use Rattle.demands.specs.Demand1.{paging-after-table, pointing-exact, pointing-table}
 use Rattle.demands.specs.Demand1.{testing-exact, testing-lowest, writing-exact, writing-lowest}
 use Rattle.demands.specs.Quotients.{Tested, tested-exactly, CarriesK, judging-carries, pointing-carries, paging-carries, paging-first-carries}
 use Rattle.demands.specs.Files.{WrittenFile, written-file}
 use Rattle.demands.specs.Demand2.{Conditions, accepted-exactly, uniformity-smallest, period-written}
 use Rattle.demands.specs.Demand3.{Faithful, ReadsList, faithful-list}
+use Rattle.demands.specs.Floors.{baseJudging, basePointing, basePaging, base-judging-lowest, base-pointing-lowest, base-paging-lowest}
 use Rattle.demands.specs.Period.{FaithfulPoints, ReadsPeriod, faithful-period}
 
 -- ---- a result that says 0 holds the value
 
-module _ (m p q : ℕ) where
-  judged-zero : numberOf (judgementValues (judgement m p q)) ≡ 0 → judgement m p q ≡ Accepted (step m p q)
+module _ (m floor p q : ℕ) where
+  judged-zero : numberOf (judgementValues (judgement m floor p q)) ≡ 0 → judgement m floor p q ≡ Accepted (step m p q)
   unfolding judgement
-  judged-zero z = unless-given Rejected _ (judging-exact m p q .none .0 z)
+  judged-zero z = unless-given Rejected _ (judging-exact m floor p q .none .0 z)
 
-  judgement-accepts : (r : FenyurkaJudgement) → r ≡ judgementResult (judgementValues (judgement m p q)) → (σ : ℕ)
-      → ((r .refusal ≡ 0) × (r .step ≡ σ)) ↔ Conditions m p q σ
+  judgement-accepts : (r : FenyurkaJudgement) → r ≡ judgementResult (judgementValues (judgement m floor p q)) → (σ : ℕ)
+      → ((r .refusal ≡ 0) × (r .step ≡ σ)) ↔ Conditions m floor p q σ
   judgement-accepts r h σ = (to, from)
     where
-      to : (r .refusal ≡ 0) × (r .step ≡ σ) → Conditions m p q σ
+      to : (r .refusal ≡ 0) × (r .step ≡ σ) → Conditions m floor p q σ
       to g =
           let accepted = judged-zero (rw h at (g .0)) in
           let same : step m p q ≡ σ = rw (h, accepted) at (g .1) in
-          accepted-exactly m p q σ .0 (accepted ∙ ap Accepted same)
+          accepted-exactly m floor p q σ .0 (accepted ∙ ap Accepted same)
 
-      from : Conditions m p q σ → (r .refusal ≡ 0) × (r .step ≡ σ)
-      from c = rw (h, accepted-exactly m p q σ .1 c) (refl, refl)
+      from : Conditions m floor p q σ → (r .refusal ≡ 0) × (r .step ≡ σ)
+      from c = rw (h, accepted-exactly m floor p q σ .1 c) (refl, refl)
 
+module _ (m p q : ℕ) where
   tested-zero : numberOf (quotientTestValues (quotientTest m p q)) ≡ 0 → quotientTest m p q ≡ Degrees (quotientDegree p q) (commonDegree p q)
   unfolding quotientTest
   tested-zero z = unless-given Untested _ (testing-exact m p q .none .0 z)
@@ -120,40 +122,40 @@ module _ (request : PageRequest) (s : List ℕ) (r : FenyurkaPage) (h : r ≡ pa
   result-keeps n =
       answered-both (page-answered request s) (λ a t. 0 < numberOf (pageValues a) → t ≡ s) (λ k i. refl) (λ i. absurd (omega arith)) (rw h at n)
 
-points-result-keeps : (m p q first : ℕ) (s : List ℕ) (r : FenyurkaPoints) → r ≡ pointsResult (pointsValues (pointsAnswer m p q first s))
-    → 0 < r .refusal → pointsSlice m p q first s ≡ s
-points-result-keeps m p q first s r h n =
-    answered-both (points-answered m p q first s) (λ a t. 0 < numberOf (pointsValues a) → t ≡ s) (λ k i. refl) (λ i. absurd (omega arith)) (rw h at n)
+points-result-keeps : (m floor p q first : ℕ) (s : List ℕ) (r : FenyurkaPoints) → r ≡ pointsResult (pointsValues (pointsAnswer m floor p q first s))
+    → 0 < r .refusal → pointsSlice m floor p q first s ≡ s
+points-result-keeps m floor p q first s r h n =
+    answered-both (points-answered m floor p q first s) (λ a t. 0 < numberOf (pointsValues a) → t ≡ s) (λ k i. refl) (λ i. absurd (omega arith)) (rw h at n)
 
-module _ (entries s : List ℕ) (r : FenyurkaFile) (h : r ≡ fileResult (fileValues (fileAnswer entries s))) where
-  file-result-keeps : 0 < r .refusal → fileBuffer entries s ≡ s
+module _ (floor : ℕ) (entries s : List ℕ) (r : FenyurkaFile) (h : r ≡ fileResult (fileValues (fileAnswer floor entries s))) where
+  file-result-keeps : 0 < r .refusal → fileBuffer floor entries s ≡ s
   file-result-keeps n =
-      answered-both (file-answered entries s) (λ a t. 0 < numberOf (fileValues a) → t ≡ s) (λ k i. refl) (λ i. absurd (omega arith)) (rw h at n)
+      answered-both (file-answered floor entries s) (λ a t. 0 < numberOf (fileValues a) → t ≡ s) (λ k i. refl) (λ i. absurd (omega arith)) (rw h at n)
 
-  file-zero : r .refusal ≡ 0 → fileAnswer entries s ≡ File (r .length)
+  file-zero : r .refusal ≡ 0 → fileAnswer floor entries s ≡ File (r .length)
   unfolding fileAnswer
   file-zero z =
-      let given = unless-given NoFile (File (length (rankedFile (entriesOf entries)))) (writing-exact entries s .none .0 (rw h at z)) in
-      let same : length (rankedFile (entriesOf entries)) ≡ r .length = rw (h, given) in
+      let given = unless-given NoFile (File (length (rankedFile (entriesOf floor entries)))) (writing-exact floor entries s .none .0 (rw h at z)) in
+      let same : length (rankedFile (entriesOf floor entries)) ≡ r .length = rw (h, given) in
       given ∙ ap File same
 
 -- ---- demands 1 and 2, call by call
 
-module _ (κs : _) (m p q : ℕ) (r : _) (e : _) (h : c-judge.Post κs (m, (p, (q, tt))) r e) where
-  pub c-judge-exact : Exact (judging m p q) (r .refusal)
-  c-judge-exact = rw h (judging-exact m p q)
+module _ (κs : _) (m floor p q : ℕ) (r : _) (e : _) (h : c-judge.Post κs (m, (floor, (p, (q, tt)))) r e) where
+  pub c-judge-exact : Exact (judging m floor p q) (r .refusal)
+  c-judge-exact = rw h (judging-exact m floor p q)
 
-  pub c-judge-lowest : LowestGiven (judging m p q) (r .refusal)
-  c-judge-lowest = rw h (judging-lowest m p q)
+  pub c-judge-lowest : floor ≤ 1 → LowestGiven (baseJudging m p q) (r .refusal)
+  c-judge-lowest low = rw h (base-judging-lowest m floor p q low)
 
-  pub c-judge-table : LawfulDegree m → ByTable m p q (r .refusal)
-  c-judge-table lawful = rw h (judging-table m p q lawful)
+  pub c-judge-table : LawfulDegree m → lawfulFloor floor ≡ true → ByTable m floor p q (r .refusal)
+  c-judge-table lawful low = rw h (judging-table m floor p q lawful low)
 
   pub c-judge-carries : CarriesK m p q (r .refusal) (r .«quotient_degree»)
-  c-judge-carries = rw h (judging-carries m p q)
+  c-judge-carries = rw h (judging-carries m floor p q)
 
-  pub c-judge-accepts : (σ : ℕ) → ((r .refusal ≡ 0) × (r .step ≡ σ)) ↔ Conditions m p q σ
-  c-judge-accepts = judgement-accepts m p q r h
+  pub c-judge-accepts : (σ : ℕ) → ((r .refusal ≡ 0) × (r .step ≡ σ)) ↔ Conditions m floor p q σ
+  c-judge-accepts = judgement-accepts m floor p q r h
 
 module _ (κs : _) (m p q : ℕ) (r : _) (e : _) (h : c-quotients.Post κs (m, (p, (q, tt))) r e) where
   pub c-quotients-exact : Exact (testing m p q) (r .refusal)
@@ -179,8 +181,8 @@ module _ (κs : _) (list : FenyurkaList) (rows : _) (r : _) (e : _) (h : c-first
   pub c-first-page-exact : Exact (paging (pageOf list Start) (now rows)) (r .refusal)
   c-first-page-exact = rw (h .0) (paging-exact (pageOf list Start) (now rows))
 
-  pub c-first-page-lowest : LowestGiven (paging (pageOf list Start) (now rows)) (r .refusal)
-  c-first-page-lowest = rw (h .0) (paging-lowest (pageOf list Start) (now rows))
+  pub c-first-page-lowest : list .floor ≤ 1 → LowestGiven (basePaging (listOf list) Start (now rows)) (r .refusal)
+  c-first-page-lowest low = rw (h .0) (base-paging-lowest (listOf list) (list .floor) low Start (now rows))
 
   pub c-first-page-carries : r .«quotient_degree» ≡ 0
   c-first-page-carries = rw (h .0) (paging-first-carries (listOf list) (now rows))
@@ -192,11 +194,12 @@ module _ (κs : _) (list : FenyurkaList) (p q : ℕ) (rows : _) (r : _) (e : _) 
   pub c-page-after-exact : Exact (paging (pageOf list (After p q)) (now rows)) (r .refusal)
   c-page-after-exact = rw (h .0) (paging-exact (pageOf list (After p q)) (now rows))
 
-  pub c-page-after-lowest : LowestGiven (paging (pageOf list (After p q)) (now rows)) (r .refusal)
-  c-page-after-lowest = rw (h .0) (paging-lowest (pageOf list (After p q)) (now rows))
+  pub c-page-after-lowest : list .floor ≤ 1 → LowestGiven (basePaging (listOf list) (After p q) (now rows)) (r .refusal)
+  c-page-after-lowest low = rw (h .0) (base-paging-lowest (listOf list) (list .floor) low (After p q) (now rows))
 
-  pub c-page-after-table : LawfulDegree (list .degree) → LawfulTop (list .top) → ByTable (list .degree) p q (r .refusal)
-  c-page-after-table degree top = rw (h .0) (paging-after-table (listOf list) (now rows) p q degree top)
+  pub c-page-after-table : LawfulDegree (list .degree) → LawfulTop (list .top) → lawfulFloor (list .floor) ≡ true
+      → ByTable (list .degree) (list .floor) p q (r .refusal)
+  c-page-after-table degree top low = rw (h .0) (paging-after-table (listOf list) (now rows) p q degree top low)
 
   pub c-page-after-carries : CarriesK (list .degree) p q (r .refusal) (r .«quotient_degree»)
   c-page-after-carries = rw (h .0) (paging-carries (listOf list) p q (now rows))
@@ -204,26 +207,26 @@ module _ (κs : _) (list : FenyurkaList) (p q : ℕ) (rows : _) (r : _) (e : _) 
   pub c-page-after-keeps : 0 < r .refusal → now (fourth e) ≡ now rows
   c-page-after-keeps n = h .1 ∙ result-keeps (pageOf list (After p q)) (now rows) r (h .0) n
 
-module _ (κs : _) (m p q first : ℕ) (lent : _) (r : _) (e : _) (h : c-points.Post κs (m, (p, (q, (first, (lent, tt))))) r e) where
-  pub c-points-exact : Exact (pointing m p q first) (r .refusal)
-  c-points-exact = rw (h .0) (pointing-exact m p q first (now lent))
+module _ (κs : _) (m floor p q first : ℕ) (lent : _) (r : _) (e : _) (h : c-points.Post κs (m, (floor, (p, (q, (first, (lent, tt)))))) r e) where
+  pub c-points-exact : Exact (pointing m floor p q first) (r .refusal)
+  c-points-exact = rw (h .0) (pointing-exact m floor p q first (now lent))
 
-  pub c-points-lowest : LowestGiven (pointing m p q first) (r .refusal)
-  c-points-lowest = rw (h .0) (pointing-lowest m p q first (now lent))
+  pub c-points-lowest : floor ≤ 1 → LowestGiven (basePointing m p q first) (r .refusal)
+  c-points-lowest low = rw (h .0) (base-pointing-lowest m floor p q low first (now lent))
 
-  pub c-points-table : LawfulDegree m → ByTable m p q (r .refusal)
-  c-points-table lawful = rw (h .0) (pointing-table m p q first (now lent) lawful)
+  pub c-points-table : LawfulDegree m → lawfulFloor floor ≡ true → ByTable m floor p q (r .refusal)
+  c-points-table lawful low = rw (h .0) (pointing-table m floor p q first (now lent) lawful low)
 
   pub c-points-carries : CarriesK m p q (r .refusal) (r .«quotient_degree»)
-  c-points-carries = rw (h .0) (pointing-carries m p q first (now lent))
+  c-points-carries = rw (h .0) (pointing-carries m floor p q first (now lent))
 
-  pub c-points-keep : 0 < r .refusal → now (fifth e) ≡ now lent
-  c-points-keep n = h .1 ∙ points-result-keeps m p q first (now lent) r (h .0) n
+  pub c-points-keep : 0 < r .refusal → now (sixth e) ≡ now lent
+  c-points-keep n = h .1 ∙ points-result-keeps m floor p q first (now lent) r (h .0) n
 
 -- A pair that judging accepts, from the first word on, into a slice that is long enough.
-module _ (κs : _) (m p q : ℕ) (lent : _) (r : _) (e : _) (h : c-points.Post κs (m, (p, (q, (0, (lent, tt))))) r e) where
-  pub c-points-full : (σ : ℕ) → Conditions m p q σ → period m ≤ length (now lent) → now (fifth e) ≡ over 0 (words p q 0 (period m)) (now lent)
-  c-points-full σ c l = h .1 ∙ period-written m p q σ c (now lent) l
+module _ (κs : _) (m floor p q : ℕ) (lent : _) (r : _) (e : _) (h : c-points.Post κs (m, (floor, (p, (q, (0, (lent, tt)))))) r e) where
+  pub c-points-full : (σ : ℕ) → Conditions m floor p q σ → period m ≤ length (now lent) → now (sixth e) ≡ over 0 (words p q 0 (period m)) (now lent)
+  c-points-full σ c l = h .1 ∙ period-written m floor p q σ c (now lent) l
 
 pub c-open-exact : (κs : _) (file : _) (r : _) (e : _) → c-open.Post κs (file, tt) r e → Exact (formSituation (now file)) (r .refusal)
 c-open-exact κs file r e h = rw h (opening-exact (now file))
@@ -244,19 +247,19 @@ c-lookup-empty κs file m r e h n =
     no-rows (Body top rows) some = absurd (omega arith)
     no-rows (NoBody refusal) some = refl
 
-module _ (κs : _) (entries lent : _) (r : _) (e : _) (h : c-write.Post κs (entries, (lent, tt)) r e) where
-  pub c-write-exact : Exact (writing (now entries) (now lent)) (r .refusal)
-  c-write-exact = rw (h .0) (writing-exact (now entries) (now lent))
+module _ (κs : _) (floor : ℕ) (entries lent : _) (r : _) (e : _) (h : c-write.Post κs (floor, (entries, (lent, tt))) r e) where
+  pub c-write-exact : Exact (writing floor (now entries) (now lent)) (r .refusal)
+  c-write-exact = rw (h .0) (writing-exact floor (now entries) (now lent))
 
-  pub c-write-lowest : LowestGiven (writing (now entries) (now lent)) (r .refusal)
-  c-write-lowest = rw (h .0) (writing-lowest (now entries) (now lent))
+  pub c-write-lowest : LowestGiven (writing floor (now entries) (now lent)) (r .refusal)
+  c-write-lowest = rw (h .0) (writing-lowest floor (now entries) (now lent))
 
-  pub c-write-keeps : 0 < r .refusal → now (second e) ≡ now lent
-  c-write-keeps n = h .1 ∙ file-result-keeps (now entries) (now lent) r (h .0) n
+  pub c-write-keeps : 0 < r .refusal → now (third e) ≡ now lent
+  c-write-keeps n = h .1 ∙ file-result-keeps floor (now entries) (now lent) r (h .0) n
 
   -- ROUND TRIP from C.
-  pub c-write-reads-back : r .refusal ≡ 0 → WrittenFile (now entries) (now lent) (r .length) (now (second e))
-  c-write-reads-back z = rw (h .1) (written-file (now entries) (now lent) (r .length) (file-zero (now entries) (now lent) r (h .0) z))
+  pub c-write-reads-back : r .refusal ≡ 0 → WrittenFile floor (now entries) (now lent) (r .length) (now (third e))
+  c-write-reads-back z = rw (h .1) (written-file floor (now entries) (now lent) (r .length) (file-zero floor (now entries) (now lent) r (h .0) z))
 
 -- ---- demand 3, the walk of pages
 
@@ -275,19 +278,20 @@ module _ (list : FenyurkaList) where
       record { refusal-is = rw (h .0); count-is = rw (h .0); more-is = rw (h .0); slice-is = h .1 }
 
   -- READ FROM C.
-  pub c-page-reads-list : lawfulDegree (list .degree) ≡ true → lawfulTop (list .top) ≡ true → ReadsList (listOf list) (AskedFromC list)
-  c-page-reads-list degree dimension = faithful-list (listOf list) degree dimension c-faithful
+  pub c-page-reads-list : lawfulDegree (list .degree) ≡ true → lawfulTop (list .top) ≡ true → lawfulFloor (list .floor) ≡ true
+      → ReadsList (listOf list) (AskedFromC list)
+  c-page-reads-list degree dimension floor = faithful-list (listOf list) degree dimension floor c-faithful
 
 -- ---- demand 2, points in pieces
 
 -- Asked by the function for points, its contract being met.
-pub data PointsFromC (m p q : ℕ) : ℕ → List ℕ → ℕ → ℕ → List ℕ → Type 0 where
-  asked-points : {first : ℕ} (κs : _) (lent : _) (r : _) (e : _) → c-points.Post κs (m, (p, (q, (first, (lent, tt))))) r e
-      → PointsFromC m p q first (now lent) (r .refusal) (r .count) (now (fifth e))
+pub data PointsFromC (m floor p q : ℕ) : ℕ → List ℕ → ℕ → ℕ → List ℕ → Type 0 where
+  asked-points : {first : ℕ} (κs : _) (lent : _) (r : _) (e : _) → c-points.Post κs (m, (floor, (p, (q, (first, (lent, tt)))))) r e
+      → PointsFromC m floor p q first (now lent) (r .refusal) (r .count) (now (sixth e))
 
-c-points-faithful : (m p q : ℕ) → FaithfulPoints m p q (PointsFromC m p q)
-c-points-faithful m p q first s x n left (asked-points κs lent r e h) = record { refusal-is = rw (h .0); count-is = rw (h .0); slice-is = h .1 }
+c-points-faithful : (m floor p q : ℕ) → FaithfulPoints m floor p q (PointsFromC m floor p q)
+c-points-faithful m floor p q first s x n left (asked-points κs lent r e h) = record { refusal-is = rw (h .0); count-is = rw (h .0); slice-is = h .1 }
 
 -- READ FROM C.
-pub c-points-reads-period : (m p q σ : ℕ) → Conditions m p q σ → ReadsPeriod m p q (PointsFromC m p q)
-c-points-reads-period m p q σ c = faithful-period m p q σ c (c-points-faithful m p q)
+pub c-points-reads-period : (m floor p q σ : ℕ) → Conditions m floor p q σ → ReadsPeriod m p q (PointsFromC m floor p q)
+c-points-reads-period m floor p q σ c = faithful-period m floor p q σ c (c-points-faithful m floor p q)

@@ -10,6 +10,7 @@ pub mod Files
 pub mod Demand2
 pub mod Period
 pub mod Demand3
+pub mod Floors
 pub mod Arguments
 pub mod Contracts
 pub mod FromC

@@ -1,9 +1,9 @@
--- Document 01's table for a pair of a lawful degree: the refusals 3 to 6 in the table's own words, the lowest that applies. The definition asks more:
+-- The documents' table for a pair of a lawful degree at a floor: the refusals 3 to 6 and 11 in its own words, the first that applies. The definition asks more:
 -- no common factor beside linear quotients, and a step found by search. For a primitive p and a well-formed q neither makes a difference: q is a
 -- power of x, so it has an inverse, which a common factor would forbid; and q = 1, the one that is no power before x^(2^m - 1), has the quotient p,
 -- of degree m. Assumes nothing.
 use mathlib.Core.Path.{_≡_, refl, sym, ap, _∙_, subst}
-use mathlib.Core.Logic.{_≢_, _↔_}
+use mathlib.Core.Logic.{_≢_, _↔_, _⊎_}
 use mathlib.Core.Bool.{true, false, not}
 use mathlib.Core.List.{List, _++_}
 use Prim.Native.Nat.{ℕ, zero, suc, _^_, _≤_, _<_}
@@ -13,12 +13,12 @@ use borrow.Author.Tests.{not-true, not-false}
 use Rattle.definitions.specs.Number.{gcd}
 use Rattle.definitions.specs.Polynomial.{prod, rem}
 use Rattle.definitions.specs.Answers.{Situation, refusalNumber}
-use Rattle.definitions.specs.Generator.{leastDegree, wellFormed, period, primitive, linearQuotients, quotientDegree, coprimeStep, step}
+use Rattle.definitions.specs.Generator.{leastDegree, wellFormed, period, primitive, linearQuotients, quotientDegree, coprimeStep, reachesFloor, step}
 use Rattle.definitions.specs.Calls.{pairSituations}
 use Rattle.definitions.specs.declared.Refusal.{Refusal}
-use Rattle.definitions.specs.declared.Refusal.the-variants.{IllFormedPair, NotPrimitive, QuotientNotLinear, StepNotCoprime}
+use Rattle.definitions.specs.declared.Refusal.the-variants.{IllFormedPair, NotPrimitive, QuotientNotLinear, StepNotCoprime, StepBelowFloor}
 use Rattle.number_laws.specs.Bounds.{LawfulDegree}
-use Rattle.number_laws.specs.Truth.{truth-false, not-both}
+use Rattle.number_laws.specs.Truth.{truth-false, not-both, le-unless}
 use Rattle.answer_laws.specs.Unless.{Decides, here, later}
 use Rattle.polynomial_laws.specs.Degree.{HasDegree, positive}
 use Rattle.fraction_laws.specs.WellFormed.{WellFormed, wellFormed-is}
@@ -30,18 +30,26 @@ use Rattle.order_laws.specs.Cycle.{cycle-inverse}
 use Rattle.order_laws.specs.Step.{step-one, step-unique}
 use Rattle.order_laws.specs.Orbit.{coprimeStep-is}
 use Rattle.order_laws.specs.Accepted.{IsStep, every-step}
+use Rattle.order_laws.specs.Floor.{reachesFloor-is}
 use Rattle.demands.specs.Situations.{Decided}
 
 -- p is primitive: the smallest e ≥ 1 with x^e ≡ 1 (mod p) is 2^m - 1.
 abbrev pub Primitive : ℕ → ℕ → Type 0
 Primitive m p = IsOrder p (period m)
 
--- The table: `PairRefused m p q n` says in which situation n is given, none of the lower ones applying.
-pub data PairRefused (m p q : ℕ) : ℕ → Type 0 where
-  pair-not-well-formed : ¬ WellFormed m p q → PairRefused m p q 3
-  p-not-primitive : WellFormed m p q → ¬ Primitive m p → PairRefused m p q 4
-  some-quotient-not-linear : WellFormed m p q → Primitive m p → SomeQuotientNotLinear p q → PairRefused m p q 5
-  step-not-coprime : {σ : ℕ} → WellFormed m p q → Primitive m p → EveryQuotientLinear p q → IsStep m p q σ → gcd σ (period m) ≢ 1 → PairRefused m p q 6
+-- The table: `PairRefused m floor p q n` says in which situation n is given, none of those before it applying.
+pub data PairRefused (m floor p q : ℕ) : ℕ → Type 0 where
+  pair-not-well-formed : ¬ WellFormed m p q → PairRefused m floor p q 3
+  p-not-primitive : WellFormed m p q → ¬ Primitive m p → PairRefused m floor p q 4
+  some-quotient-not-linear : WellFormed m p q → Primitive m p → SomeQuotientNotLinear p q → PairRefused m floor p q 5
+  step-not-coprime : {σ : ℕ} → WellFormed m p q → Primitive m p → EveryQuotientLinear p q → IsStep m p q σ → gcd σ (period m) ≢ 1
+      → PairRefused m floor p q 6
+  step-below-floor : {σ : ℕ} → WellFormed m p q → Primitive m p → EveryQuotientLinear p q → IsStep m p q σ → gcd σ (period m) ≡ 1 → σ < floor
+      → PairRefused m floor p q 11
+
+-- The numbers that the table speaks of, and those below them.
+abbrev pub OfTable : ℕ → Type 0
+OfTable n = (n ≤ 6) ⊎ (n ≡ 11)
 
 -- ---- a primitive p and a well-formed q
 
@@ -89,7 +97,7 @@ module _ (m p q : ℕ) (low : leastDegree ≤ m) (w : WellFormed m p q) (order :
 
 -- ---- the refusal that decides is the table's
 
-module _ (m p q : ℕ) (lawful : LawfulDegree m) where
+module _ (m floor p q : ℕ) (lawful : LawfulDegree m) where
   formed-by : wellFormed m p q ≡ true → WellFormed m p q
   formed-by = wellFormed-is m p q .0
 
@@ -105,8 +113,11 @@ module _ (m p q : ℕ) (lawful : LawfulDegree m) where
   order-test : Primitive m p → not (primitive m p) ≡ false
   order-test o = ap not (primitive-is m p (omega (arith, lawful .low)) .1 o)
 
-  module _ (rest : List Situation) (higher : (r : Refusal) → Decides r rest → 6 < refusalNumber r) where
-    decides-table : {r : Refusal} → Decides r (pairSituations m p q ++ rest) → refusalNumber r ≤ 6 → PairRefused m p q (refusalNumber r)
+  coprime-by : {σ : ℕ} → WellFormed m p q → Primitive m p → IsStep m p q σ → gcd σ (period m) ≡ 1 → coprimeStep m p q ≡ true
+  coprime-by {σ} w o s e = coprimeStep-is m p q .1 (ap (λ k. gcd k (period m)) (is-the-step m p q (lawful .low) w o σ s) ∙ e)
+
+  module _ (rest : List Situation) (other : (r : Refusal) → Decides r rest → OfTable (refusalNumber r) → ⊥) where
+    decides-table : {r : Refusal} → Decides r (pairSituations m floor p q ++ rest) → OfTable (refusalNumber r) → PairRefused m floor p q (refusalNumber r)
     unfolding pairSituations
     decides-table (here a) h = pair-not-well-formed (λ w. not-both (wellFormed-is m p q .1 w) (not-true _ a))
     decides-table (later a (here b)) h =
@@ -121,9 +132,15 @@ module _ (m p q : ℕ) (lawful : LawfulDegree m) where
         let t = not-false _ c in
         step-not-coprime w o (every-quotient m p q (lawful .low) w o .0 t) (has-step m p q (lawful .low) w o t)
         (λ e. not-both (coprimeStep-is m p q .1 e) (not-true _ d))
-    decides-table (later a (later b (later c (later d x)))) h = absurd (omega (arith, higher _ x))
+    decides-table (later a (later b (later c (later d (here e))))) h =
+        let w = formed-by (not-false _ a) in
+        let o = order-by (not-false _ b) in
+        let t = not-false _ c in
+        let below : step m p q < floor = le-unless (λ l. not-both (reachesFloor-is m floor p q .1 (omega arith)) (not-true _ e)) in
+        step-below-floor w o (every-quotient m p q (lawful .low) w o .0 t) (has-step m p q (lawful .low) w o t) (coprimeStep-is m p q .0 (not-false _ d)) below
+    decides-table (later a (later b (later c (later d (later e x))))) h = absurd (other _ x h)
 
-    table-decides : (n : ℕ) → PairRefused m p q n → Decided (pairSituations m p q ++ rest) n
+    table-decides : (n : ℕ) → PairRefused m floor p q n → Decided (pairSituations m floor p q ++ rest) n
     unfolding pairSituations
     table-decides n (pair-not-well-formed h) = (IllFormedPair, here (fails (λ t. h (formed-by t))), refl)
     table-decides n (p-not-primitive w h) = (NotPrimitive, later (formed-test w) (here (fails (λ t. h (order-by t)))), refl)
@@ -131,13 +148,18 @@ module _ (m p q : ℕ) (lawful : LawfulDegree m) where
         (QuotientNotLinear (quotientDegree p q), later (formed-test w) (later (order-test o) (here (some-quotient m p q (lawful .low) w o .1 some))), refl)
     table-decides n (step-not-coprime {σ} w o every s shared) =
         let t = every-quotient m p q (lawful .low) w o .1 every in
-        let other : coprimeStep m p q ≡ true → ⊥ =
+        let never : coprimeStep m p q ≡ true → ⊥ =
         λ c. shared (ap (λ e. gcd e (period m)) (sym (is-the-step m p q (lawful .low) w o σ s)) ∙ coprimeStep-is m p q .0 c) in
-        (StepNotCoprime, later (formed-test w) (later (order-test o) (later (ap not t) (here (fails other)))), refl)
+        (StepNotCoprime, later (formed-test w) (later (order-test o) (later (ap not t) (here (fails never)))), refl)
+    table-decides n (step-below-floor {σ} w o every s coprime below) =
+        let t = every-quotient m p q (lawful .low) w o .1 every in
+        let never : reachesFloor m floor p q ≡ true → ⊥ =
+        λ r. omega (arith, below, is-the-step m p q (lawful .low) w o σ s, reachesFloor-is m floor p q .0 r) in
+        (StepBelowFloor, later (formed-test w) (later (order-test o) (later (ap not t) (later (ap not (coprime-by w o s coprime)) (here (fails never))))), refl)
 
-    -- THE TABLE: of the situations of a pair, and others of higher numbers behind them.
-    pub pair-table : (n : ℕ) → n ≤ 6 → Decided (pairSituations m p q ++ rest) n ↔ PairRefused m p q n
+    -- THE TABLE: of the situations of a pair, and others of which it does not speak behind them.
+    pub pair-table : (n : ℕ) → OfTable n → Decided (pairSituations m floor p q ++ rest) n ↔ PairRefused m floor p q n
     pair-table n h = (
-      λ (d : Decided (pairSituations m p q ++ rest) n). subst (PairRefused m p q) (d .2) (decides-table (d .1) (rw (d .2) h)),
-      λ (t : PairRefused m p q n). table-decides n t,
+      λ (d : Decided (pairSituations m floor p q ++ rest) n). subst (PairRefused m floor p q) (d .2) (decides-table (d .1) (rw (d .2) h)),
+      λ (t : PairRefused m floor p q n). table-decides n t,
     )

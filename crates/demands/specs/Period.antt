@@ -91,15 +91,15 @@ module _ (m p q : ℕ) (call : PointsCall) (reads : ReadsPeriod m p q call) (nex
   reading-ends = read-on (period m) 0 [] begun (omega arith)
 
 -- A call as the definitions have it.
-pub record DefinedPoints (m p q first : ℕ) (s : List ℕ) (refusal count : ℕ) (left : List ℕ) : Type 0 where
-  pub refusal-is : refusal ≡ value (pointsValues (pointsAnswer m p q first s)) 0
-  pub count-is : count ≡ value (pointsValues (pointsAnswer m p q first s)) 2
-  pub slice-is : left ≡ pointsSlice m p q first s
+pub record DefinedPoints (m floor p q first : ℕ) (s : List ℕ) (refusal count : ℕ) (left : List ℕ) : Type 0 where
+  pub refusal-is : refusal ≡ value (pointsValues (pointsAnswer m floor p q first s)) 0
+  pub count-is : count ≡ value (pointsValues (pointsAnswer m floor p q first s)) 2
+  pub slice-is : left ≡ pointsSlice m floor p q first s
 
 -- Calls are faithful if each is as the definitions have it.
-abbrev pub FaithfulPoints : ℕ → ℕ → ℕ → PointsCall → Type 0
-FaithfulPoints m p q call = (first : ℕ) (s : List ℕ) (refusal count : ℕ) (left : List ℕ) → call first s refusal count left
-    → DefinedPoints m p q first s refusal count left
+abbrev pub FaithfulPoints : ℕ → ℕ → ℕ → ℕ → PointsCall → Type 0
+FaithfulPoints m floor p q call = (first : ℕ) (s : List ℕ) (refusal count : ℕ) (left : List ℕ) → call first s refusal count left
+    → DefinedPoints m floor p q first s refusal count left
 
 -- What was read so far.
 record SoFar (m p q i : ℕ) (ps : Pieces) : Type 0 where
@@ -107,37 +107,37 @@ record SoFar (m p q i : ℕ) (ps : Pieces) : Type 0 where
   most : i ≤ period m
   front : join ps ≡ words p q 0 i
 
-module _ (m p q σ : ℕ) (c : Conditions m p q σ) where
+module _ (m floor p q σ : ℕ) (c : Conditions m floor p q σ) where
   -- NO WORD COMES TWICE.
   pub words-distinct : List·Nodup (words p q 0 (period m))
   words-distinct =
       let w = c .well-formed in
       let low : 1 ≤ m = omega (arith, c .lawful .low) in
-      words-once m p q low (omega (arith, c .lawful .high)) (w .degree-p) (w .nonzero) (w .smaller) (is-accepted m p q σ c)
+      words-once m p q low (omega (arith, c .lawful .high)) (w .degree-p) (w .nonzero) (w .smaller) (is-accepted m floor p q σ c)
 
   -- ---- one call
 
   -- Within the period,
   module _ (i : ℕ) (inside : i < period m) (s : List ℕ) where
-    points-inside : pointsAnswer m p q i s ≡ Written (wordCount m i s)
+    points-inside : pointsAnswer m floor p q i s ≡ Written (wordCount m i s)
     unfolding pointsAnswer pointing
-    points-inside = unless-given NotWritten _ (none-append (judging-passes m p q σ c) (passes (le-ltb (period m - 1) i (omega arith)) at-end))
+    points-inside = unless-given NotWritten _ (none-append (judging-passes m floor p q σ c) (passes (le-ltb (period m - 1) i (omega arith)) at-end))
 
-    words-taken : take (wordCount m i s) (pointsSlice m p q i s) ≡ words p q i (wordCount m i s)
+    words-taken : take (wordCount m i s) (pointsSlice m floor p q i s) ≡ words p q i (wordCount m i s)
     words-taken =
-        rw (points-given m p q i s points-inside .2, over-front)
+        rw (points-given m floor p q i s points-inside .2, over-front)
         (take-at (words p q i (wordCount m i s)) _ (wordCount m i s) (length-words p q i (wordCount m i s)))
 
   -- and at its end.
-  points-behind : (s : List ℕ) → pointsAnswer m p q (period m) s ≡ NotWritten BeyondPeriod
+  points-behind : (s : List ℕ) → pointsAnswer m floor p q (period m) s ≡ NotWritten BeyondPeriod
   unfolding pointsAnswer pointing
   points-behind s =
       let some : 0 < period m = omega (arith, c .is-step .below) in
-      unless-refused NotWritten _ (decides-behind (judging-passes m p q σ c) (here (lt-ltb (period m - 1) (period m) (omega arith))))
+      unless-refused NotWritten _ (decides-behind (judging-passes m floor p q σ c) (here (lt-ltb (period m - 1) (period m) (omega arith))))
 
   -- ---- call by call
 
-  module _ {call : PointsCall} (f : FaithfulPoints m p q call) where
+  module _ {call : PointsCall} (f : FaithfulPoints m floor p q call) where
     told : {i : ℕ} → i < period m → (s left : List ℕ) (x n : ℕ) → call i s x n left → (x ≡ 0) × (n ≡ wordCount m i s)
     told {i} inside s left x n a =
         let d = f i s x n left a in
@@ -184,13 +184,13 @@ module _ (m p q σ : ℕ) (c : Conditions m p q σ) where
             go (no outside) = omega arith
 
   -- READ BY THE DEFINITIONS.
-  pub definition-reads-period : ReadsPeriod m p q (DefinedPoints m p q)
+  pub definition-reads-period : ReadsPeriod m p q (DefinedPoints m floor p q)
   definition-reads-period = faithful-period (λ first s x n left d. d)
 
   -- Such a call always returns: with any slices that are not empty, each chosen after what came before, there is such a reading to the end.
   pub definition-reading-ends : (choose : ℕ → Pieces → List ℕ) → ((i : ℕ) (ps : Pieces) → 0 < length (choose i ps))
-      → (pieces : Pieces) × Read (DefinedPoints m p q) (period m) pieces
-  definition-reading-ends choose some = reading-ends m p q (DefinedPoints m p q) definition-reads-period (λ i ps r. record {
+      → (pieces : Pieces) × Read (DefinedPoints m floor p q) (period m) pieces
+  definition-reading-ends choose some = reading-ends m p q (DefinedPoints m floor p q) definition-reads-period (λ i ps r. record {
     lent = choose i ps;
     some = some i ps;
     refusal = _;

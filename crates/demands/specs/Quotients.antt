@@ -3,16 +3,17 @@
 -- the K of its own pair, 2 at least. K is 1 and there is no common factor just where the pair is of the tree, and t(2) is K - 1 where there is no common
 -- factor. From the laws of K, and from which of a pair's situations decides. Assumes nothing.
 use mathlib.Core.Path.{_≡_, refl, ap, _∙_}
-use mathlib.Core.Logic.{_≢_, _↔_}
+use mathlib.Core.Logic.{_≢_, _↔_, inl}
 use mathlib.Core.Bool.{true, false, not}
 use mathlib.Core.List.{List, [], _∷_, _++_, List·Memᴰ}
-use Prim.Native.Nat.{ℕ, _-_, _≤_, _<_, max}
+use Prim.Native.Nat.{ℕ, _-_, _≤_, max}
 use native.Mathlib.Omega.{arith}
 use lib.Dec.{ltb}
 use lib.ListN.{length, getD}
 use borrow.Author.Tests.{not-true, not-false}
 use Rattle.definitions.specs.Answers.{Situation, situation, refusalNumber, refusalDegree, unless, judgementValues, pageValues, pointsValues}
-use Rattle.definitions.specs.Generator.{lawfulDegree, wellFormed, primitive, linearQuotients, quotientDegree, commonDegree, coprimeStep, period, tree}
+use Rattle.definitions.specs.Generator.{lawfulDegree, lawfulFloor, wellFormed, primitive, linearQuotients, quotientDegree, commonDegree, coprimeStep}
+use Rattle.definitions.specs.Generator.{reachesFloor, period, tree}
 use Rattle.definitions.specs.Net.{tValue}
 use Rattle.definitions.specs.Ranking.{lawfulTop, rowWidth}
 use Rattle.definitions.specs.Calls.{pairSituations, judging, judgement, testing, quotientTest, measuring, uniformity, pageRequest, positionSituations, paging}
@@ -20,6 +21,7 @@ use Rattle.definitions.specs.Calls.{pageAnswer, pointing, pointsAnswer}
 use Rattle.definitions.specs.declared.Refusal.{Refusal}
 use Rattle.definitions.specs.declared.Refusal.the-variants.{WrongDegree, WrongDimension, IllFormedPair, NotPrimitive, QuotientNotLinear, StepNotCoprime}
 use Rattle.definitions.specs.declared.Refusal.the-variants.{ShortSlice, BeyondPeriod, IllFormedCatalogue, DegreeMissing, NotAscending, FileTooLong}
+use Rattle.definitions.specs.declared.Refusal.the-variants.{StepBelowFloor, WrongFloor}
 use Rattle.definitions.specs.declared.Selection.{Selection}
 use Rattle.definitions.specs.declared.Position.the-variants.{Start, After}
 use Rattle.definitions.specs.declared.Judgement.the-variants.{Rejected}
@@ -41,8 +43,9 @@ use Rattle.quotient_laws.specs.Plane.{tValue-plane}
 use Rattle.quotient_test.specs.Testing.{tested}
 use Rattle.demands.specs.Situations.{given}
 use Rattle.demands.specs.PairTable.{Primitive, PairRefused, pair-not-well-formed, p-not-primitive, some-quotient-not-linear, step-not-coprime}
+use Rattle.demands.specs.PairTable.{step-below-floor, OfTable}
 use Rattle.demands.specs.PairTable.{no-common-factor, some-quotient}
-use Rattle.demands.specs.Demand1.{numberOf, higher-last}
+use Rattle.demands.specs.Demand1.{numberOf, other-last, seven-other, eight-other}
 
 -- ---- what the test answers
 
@@ -129,31 +132,36 @@ module _ (m p q : ℕ) where
 
 -- ---- when 5 is given
 
--- The tests of a pair in their order, as document 01 has them, with some number carried by 5.
-abbrev pub pairTests : ℕ → ℕ → ℕ → ℕ → List Situation
-pairTests k m p q =
+-- The tests of a pair in their order, as the documents have them, with some number carried by 5.
+abbrev pub pairTests : ℕ → ℕ → ℕ → ℕ → ℕ → List Situation
+pairTests k m floor p q =
     situation (not (wellFormed m p q)) IllFormedPair
     ∷ situation (not (primitive m p)) NotPrimitive
     ∷ situation (not (linearQuotients p q)) (QuotientNotLinear k)
     ∷ situation (not (coprimeStep m p q)) StepNotCoprime
+    ∷ situation (not (reachesFloor m floor p q)) StepBelowFloor
     ∷ []
 
+-- The tests before a pair's: of the degree and the floor.
+abbrev pub firstTests : ℕ → ℕ → List Situation
+firstTests m floor = situation (not (lawfulDegree m)) WrongDegree ∷ situation (not (lawfulFloor floor)) WrongFloor ∷ []
+
 -- WHEN 5 IS GIVEN DOES NOT CHANGE: the number that a call gives is that of these tests, whatever 5 carries. By judging,
-module _ (k m p q : ℕ) where
-  pub judging-unchanged : numberOf (judgementValues (judgement m p q)) ≡ given (situation (not (lawfulDegree m)) WrongDegree ∷ pairTests k m p q)
+module _ (k m floor p q : ℕ) where
+  pub judging-unchanged : numberOf (judgementValues (judgement m floor p q)) ≡ given (firstTests m floor ++ pairTests k m floor p q)
   unfolding judging pairSituations judgement given unless
-  judging-unchanged = unless-both (λ a n. numberOf (judgementValues a) ≡ n) (judging m p q) Rejected _ refusalNumber 0 (λ r. refl) refl
+  judging-unchanged = unless-both (λ a n. numberOf (judgementValues a) ≡ n) (judging m floor p q) Rejected _ refusalNumber 0 (λ r. refl) refl
 
   -- by points,
-  pub pointing-unchanged : (i : ℕ) (s : List ℕ) → numberOf (pointsValues (pointsAnswer m p q i s))
-      ≡ given (situation (not (lawfulDegree m)) WrongDegree ∷ pairTests k m p q ++ situation (ltb (period m - 1) i) BeyondPeriod ∷ [])
+  pub pointing-unchanged : (i : ℕ) (s : List ℕ) → numberOf (pointsValues (pointsAnswer m floor p q i s))
+      ≡ given (firstTests m floor ++ (pairTests k m floor p q ++ situation (ltb (period m - 1) i) BeyondPeriod ∷ []))
   unfolding pointing judging pairSituations pointsAnswer given unless
-  pointing-unchanged i s = unless-both (λ a n. numberOf (pointsValues a) ≡ n) (pointing m p q i) NotWritten _ refusalNumber 0 (λ r. refl) refl
+  pointing-unchanged i s = unless-both (λ a n. numberOf (pointsValues a) ≡ n) (pointing m floor p q i) NotWritten _ refusalNumber 0 (λ r. refl) refl
 
 -- and by pages.
 pub paging-unchanged : (k : ℕ) (l : Selection) (p q : ℕ) (s : List ℕ) → numberOf (pageValues (pageAnswer (pageRequest l (After p q)) s))
     ≡ given (situation (not (lawfulDegree (l .degree))) WrongDegree ∷ situation (not (lawfulTop (l .top))) WrongDimension
-    ∷ pairTests k (l .degree) p q ++ situation (ltb (length s) (rowWidth l)) ShortSlice ∷ [])
+    ∷ situation (not (lawfulFloor (l .floor))) WrongFloor ∷ pairTests k (l .degree) (l .floor) p q ++ situation (ltb (length s) (rowWidth l)) ShortSlice ∷ [])
 unfolding paging positionSituations pairSituations pageAnswer given unless
 paging-unchanged k l p q s =
     unless-both (λ a n. numberOf (pageValues a) ≡ n) (paging (pageRequest l (After p q)) s) NoPage _ refusalNumber 0 (λ r. refl) refl
@@ -185,18 +193,19 @@ bad-quotient m p q lawful w order fails =
     quotientDegree-other w none fails
 
 -- 5 BY K: the table gives it just where the pair is well-formed, p is primitive and K is 2 at least.
-pub table-five : (m p q : ℕ) → LawfulDegree m → PairRefused m p q 5 ↔ (WellFormed m p q × Primitive m p × (2 ≤ quotientDegree p q))
-table-five m p q lawful = (λ (t : PairRefused m p q 5). to 5 t refl, from)
+pub table-five : (m floor p q : ℕ) → LawfulDegree m → PairRefused m floor p q 5 ↔ (WellFormed m p q × Primitive m p × (2 ≤ quotientDegree p q))
+table-five m floor p q lawful = (λ (t : PairRefused m floor p q 5). to 5 t refl, from)
   where
-    to : (n : ℕ) → PairRefused m p q n → n ≡ 5 → WellFormed m p q × Primitive m p × (2 ≤ quotientDegree p q)
+    to : (n : ℕ) → PairRefused m floor p q n → n ≡ 5 → WellFormed m p q × Primitive m p × (2 ≤ quotientDegree p q)
     to n (pair-not-well-formed h) e = absurd (omega arith)
     to n (p-not-primitive w h) e = absurd (omega arith)
     to n (some-quotient-not-linear w o some) e =
         let fails = not-true _ (some-quotient m p q (lawful .low) w o .1 some) in
         (w, o, bad-quotient m p q lawful w (primitive-is m p (omega (arith, lawful .low)) .1 o) fails)
     to n (step-not-coprime w o every s shared) e = absurd (omega arith)
+    to n (step-below-floor w o every s coprime below) e = absurd (omega arith)
 
-    from : WellFormed m p q × Primitive m p × (2 ≤ quotientDegree p q) → PairRefused m p q 5
+    from : WellFormed m p q × Primitive m p × (2 ≤ quotientDegree p q) → PairRefused m floor p q 5
     from h =
         let w = h .0 in
         let o = h .1 in
@@ -204,8 +213,9 @@ table-five m p q lawful = (λ (t : PairRefused m p q 5). to 5 t refl, from)
         let fails : not (linearQuotients p q) ≡ true = ap not (truth-false _ never) in
         some-quotient-not-linear w o (some-quotient m p q (lawful .low) w o .0 fails)
 
-module _ (m p q : ℕ) (lawful : LawfulDegree m) (rest : List Situation) (higher : (r : Refusal) → Decides r rest → 6 < refusalNumber r) where
-  five-decides : {r : Refusal} → Decides r (pairSituations m p q ++ rest) → refusalNumber r ≡ 5 → Five m p q r
+module _ (m floor p q : ℕ) (lawful : LawfulDegree m) (rest : List Situation)
+    (other : (r : Refusal) → Decides r rest → OfTable (refusalNumber r) → ⊥) where
+  five-decides : {r : Refusal} → Decides r (pairSituations m floor p q ++ rest) → refusalNumber r ≡ 5 → Five m p q r
   unfolding pairSituations
   five-decides (here a) e = absurd (omega arith)
   five-decides (later a (here b)) e = absurd (omega arith)
@@ -213,7 +223,8 @@ module _ (m p q : ℕ) (lawful : LawfulDegree m) (rest : List Situation) (higher
       let w = wellFormed-is m p q .0 (not-false _ a) in
       record { carries = refl; well-formed = w; bad = bad-quotient m p q lawful w (not-false _ b) (not-true _ c) }
   five-decides (later a (later b (later c (here d)))) e = absurd (omega arith)
-  five-decides (later a (later b (later c (later d x)))) e = absurd (omega (arith, higher _ x))
+  five-decides (later a (later b (later c (later d (here f))))) e = absurd (omega arith)
+  five-decides (later a (later b (later c (later d (later f x))))) e = absurd (other _ x (inl (omega arith)))
 
 -- Only 5 carries anything.
 only-five : (r : Refusal) → refusalNumber r ≢ 5 → refusalDegree r ≡ 0
@@ -227,6 +238,8 @@ only-five ShortSlice other = refl
 only-five BeyondPeriod other = refl
 only-five IllFormedCatalogue other = refl
 only-five DegreeMissing other = refl
+only-five StepBelowFloor other = refl
+only-five WrongFloor other = refl
 only-five NotAscending other = refl
 only-five FileTooLong other = refl
 
@@ -253,28 +266,31 @@ carries m p q values l refuse value five refused zero none = go (outcome l)
     })
 
 -- 5 CARRIES K: in judging,
-module _ (m p q : ℕ) where
-  judging-five : {r : Refusal} → Decides r (judging m p q) → refusalNumber r ≡ 5 → Five m p q r
+module _ (m floor p q : ℕ) where
+  judging-five : {r : Refusal} → Decides r (judging m floor p q) → refusalNumber r ≡ 5 → Five m p q r
   unfolding judging pairSituations
   judging-five (here a) e = absurd (omega arith)
-  judging-five (later a d) e = five-decides m p q (lawfulDegree-is m .0 (not-false _ a)) [] (λ r x. absurd (decides-none x)) d e
+  judging-five (later a (here b)) e = absurd (omega arith)
+  judging-five (later a (later b d)) e =
+      five-decides m floor p q (lawfulDegree-is m .0 (not-false _ a)) [] (λ r x. absurd (decides-none x)) d e
 
-  pub judging-carries : CarriesK m p q (numberOf (judgementValues (judgement m p q))) (carriedOf (judgementValues (judgement m p q)))
+  pub judging-carries : CarriesK m p q (numberOf (judgementValues (judgement m floor p q))) (carriedOf (judgementValues (judgement m floor p q)))
   unfolding judgement
-  judging-carries = carries m p q judgementValues (judging m p q) Rejected _ (λ r. judging-five) (λ r. (refl, refl)) refl refl
+  judging-carries = carries m p q judgementValues (judging m floor p q) Rejected _ (λ r. judging-five) (λ r. (refl, refl)) refl refl
 
   -- in points,
   module _ (i : ℕ) where
-    pointing-five : {r : Refusal} → Decides r (pointing m p q i) → refusalNumber r ≡ 5 → Five m p q r
+    pointing-five : {r : Refusal} → Decides r (pointing m floor p q i) → refusalNumber r ≡ 5 → Five m p q r
     unfolding pointing judging pairSituations
     pointing-five (here a) e = absurd (omega arith)
-    pointing-five (later a d) e =
-        five-decides m p q (lawfulDegree-is m .0 (not-false _ a)) (situation (ltb (period m - 1) i) BeyondPeriod ∷ [])
-        (λ r x. higher-last _ BeyondPeriod (omega arith) x) d e
+    pointing-five (later a (here b)) e = absurd (omega arith)
+    pointing-five (later a (later b d)) e =
+        five-decides m floor p q (lawfulDegree-is m .0 (not-false _ a)) (situation (ltb (period m - 1) i) BeyondPeriod ∷ [])
+        (λ r x. other-last _ BeyondPeriod eight-other x) d e
 
-    pub pointing-carries : (s : List ℕ) → CarriesK m p q (numberOf (pointsValues (pointsAnswer m p q i s))) (carriedOf (pointsValues (pointsAnswer m p q i s)))
+    pub pointing-carries : (s : List ℕ) → let values = pointsValues (pointsAnswer m floor p q i s) in CarriesK m p q (numberOf values) (carriedOf values)
     unfolding pointsAnswer
-    pointing-carries s = carries m p q pointsValues (pointing m p q i) NotWritten _ (λ r. pointing-five) (λ r. (refl, refl)) refl refl
+    pointing-carries s = carries m p q pointsValues (pointing m floor p q i) NotWritten _ (λ r. pointing-five) (λ r. (refl, refl)) refl refl
 
 -- and in pages after a pair;
 module _ (l : Selection) (p q : ℕ) (s : List ℕ) where
@@ -282,9 +298,10 @@ module _ (l : Selection) (p q : ℕ) (s : List ℕ) where
   unfolding paging positionSituations pairSituations
   paging-five (here a) e = absurd (omega arith)
   paging-five (later a (here b)) e = absurd (omega arith)
-  paging-five (later a (later b d)) e =
-      five-decides (l .degree) p q (lawfulDegree-is (l .degree) .0 (not-false _ a)) (situation (ltb (length s) (rowWidth l)) ShortSlice ∷ [])
-      (λ r x. higher-last _ ShortSlice (omega arith) x) d e
+  paging-five (later a (later b (here c))) e = absurd (omega arith)
+  paging-five (later a (later b (later c d))) e =
+      five-decides (l .degree) (l .floor) p q (lawfulDegree-is (l .degree) .0 (not-false _ a)) (situation (ltb (length s) (rowWidth l)) ShortSlice ∷ [])
+      (λ r x. other-last _ ShortSlice seven-other x) d e
 
   pub paging-carries : let values = pageValues (pageAnswer (pageRequest l (After p q)) s) in CarriesK (l .degree) p q (numberOf values) (carriedOf values)
   unfolding pageAnswer
@@ -299,7 +316,8 @@ paging-first-carries l s = go (outcome (paging (pageRequest l Start) s))
     none (here a) = refl
     none (later a (here b)) = refl
     none (later a (later b (here c))) = refl
-    none (later a (later b (later c d))) = absurd (decides-none d)
+    none (later a (later b (later c (here d)))) = refl
+    none (later a (later b (later c (later d e)))) = absurd (decides-none e)
 
     go : Outcome (paging (pageRequest l Start) s) → carriedOf (pageValues (pageAnswer (pageRequest l Start) s)) ≡ 0
     go (is-refused d) = rw (unless-refused NoPage _ d) (none d)

@@ -42,7 +42,7 @@ use Rattle.interface.proofs.fenyurka_open.Reads as c-open
 use Rattle.interface.proofs.fenyurka_lookup.Reads as c-lookup
 use Rattle.interface.proofs.fenyurka_row.Reads as c-row
 use Rattle.interface.proofs.fenyurka_write.Reads as c-write
-use Rattle.demands.specs.Arguments.{second, third, fourth, fifth}
+use Rattle.demands.specs.Arguments.{second, third, fourth, sixth}
 
 -- ---- what is shown
 
@@ -100,10 +100,10 @@ start-unique κs a r r′ e e′ = same
 pub page-unique : Determined page.Post (λ κs r e. r and now (second e))
 page-unique κs a r r′ e e′ = both
 
-pub points-unique : Determined points.Post (λ κs r e. r and now (fifth e))
+pub points-unique : Determined points.Post (λ κs r e. r and now (sixth e))
 points-unique κs a r r′ e e′ = both
 
-pub write-unique : Determined write.Post (λ κs r e. r and now (second e))
+pub write-unique : Determined write.Post (λ κs r e. r and now (third e))
 write-unique κs a r r′ e e′ = both
 
 pub read-numbers-unique : Determined read-numbers.Post (λ κs r e. r and now (second e))
@@ -183,7 +183,7 @@ c-first-page-unique κs a r r′ e e′ = both
 pub c-page-after-unique : Determined c-page-after.Post (λ κs r e. r and now (fourth e))
 c-page-after-unique κs a r r′ e e′ = both
 
-pub c-points-unique : Determined c-points.Post (λ κs r e. r and now (fifth e))
+pub c-points-unique : Determined c-points.Post (λ κs r e. r and now (sixth e))
 c-points-unique κs a r r′ e e′ = both
 
 pub c-open-unique : Determined c-open.Post (λ κs r e. r)
@@ -195,5 +195,5 @@ c-lookup-unique κs a r r′ e e′ = same
 pub c-row-unique : Determined c-row.Post (λ κs r e. r)
 c-row-unique κs a r r′ e e′ = same
 
-pub c-write-unique : Determined c-write.Post (λ κs r e. r and now (second e))
+pub c-write-unique : Determined c-write.Post (λ κs r e. r and now (third e))
 c-write-unique κs a r r′ e e′ = both

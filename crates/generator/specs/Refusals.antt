@@ -1,4 +1,4 @@
--- What a pair's verdict tells: which of its situations decides, or that none applies; and a pair that passes is well-formed and accepted.
+-- What a pair's verdict tells: which of its situations decides, or that none applies; and a pair that passes is well-formed and accepted at the floor.
 -- Assumes nothing.
 use mathlib.Core.Path.{_≡_, sym}
 use mathlib.Core.Bool.{true}
@@ -6,36 +6,38 @@ use Prim.Native.Nat.{ℕ}
 use native.Mathlib.Omega.{arith}
 use borrow.Author.Tests.{not-false}
 use Rattle.definitions.specs.Calls.{pairSituations}
-use Rattle.definitions.specs.Generator.{accepted, coprimeStep}
+use Rattle.definitions.specs.Generator.{acceptedAt, coprimeStep, reachesFloor}
 use Rattle.definitions.specs.declared.Refusal.{Refusal}
 use Rattle.answer_laws.specs.Unless.{Decides, NoneApplies, passes, at-end, given-exactly, refused-exactly}
 use Rattle.fraction_laws.specs.WellFormed.{WellFormed, wellFormed-is}
 use Rattle.order_laws.specs.Accepted.{accepted-is}
+use Rattle.order_laws.specs.Floor.{acceptedAt-both}
 use Rattle.generator.specs.Judging.{pairVerdict, Fit}
 use Rattle.generator.specs.declared.pair.Verdict.the-variants.{Refused, Passed}
 
 never : (r : Refusal) → Refused r ≡ Passed → ⊥
 never r e = let z : _≡_ {A = ℕ} 0 1 = cc in omega arith
 
-module _ (m p q : ℕ) where
-  pub verdict-decides : {r : Refusal} → pairVerdict m p q ≡ Refused r → Decides r (pairSituations m p q)
+module _ (m floor p q : ℕ) where
+  pub verdict-decides : {r : Refusal} → pairVerdict m floor p q ≡ Refused r → Decides r (pairSituations m floor p q)
   unfolding pairVerdict
-  verdict-decides {r} = refused-exactly Refused Passed (pairSituations m p q) r (λ e. never r (sym e)) (λ k e. cc) .0
+  verdict-decides {r} = refused-exactly Refused Passed (pairSituations m floor p q) r (λ e. never r (sym e)) (λ k e. cc) .0
 
-  pub verdict-passes : pairVerdict m p q ≡ Passed → NoneApplies (pairSituations m p q)
+  pub verdict-passes : pairVerdict m floor p q ≡ Passed → NoneApplies (pairSituations m floor p q)
   unfolding pairVerdict
-  verdict-passes = given-exactly Refused Passed (pairSituations m p q) never .0
+  verdict-passes = given-exactly Refused Passed (pairSituations m floor p q) never .0
 
-  fit-coprime : NoneApplies (pairSituations m p q) → Fit m p q × (coprimeStep m p q ≡ true)
+  fit-for : NoneApplies (pairSituations m floor p q) → Fit m p q × (coprimeStep m p q ≡ true) × (reachesFloor m floor p q ≡ true)
   unfolding pairSituations
-  fit-coprime (passes a (passes b (passes c (passes d at-end)))) =
-      (record { well-formed = not-false _ a; primitive-p = not-false _ b; linear = not-false _ c }, not-false _ d)
+  fit-for (passes a (passes b (passes c (passes d (passes e at-end))))) =
+      (record { well-formed = not-false _ a; primitive-p = not-false _ b; linear = not-false _ c }, not-false _ d, not-false _ e)
 
-  module _ (e : pairVerdict m p q ≡ Passed) where
+  module _ (e : pairVerdict m floor p q ≡ Passed) where
     pub passed-well-formed : WellFormed m p q
-    passed-well-formed = wellFormed-is m p q .0 (fit-coprime (verdict-passes e) .0 .well-formed)
+    passed-well-formed = wellFormed-is m p q .0 (fit-for (verdict-passes e) .0 .well-formed)
 
-    pub passed-accepted : accepted m p q ≡ true
+    pub passed-accepted : acceptedAt m floor p q ≡ true
     passed-accepted =
-        let (fit, coprime) = fit-coprime (verdict-passes e) in
-        accepted-is m p q .1 (record { primitive-p = fit .primitive-p; linear = fit .linear; coprime = coprime })
+        let (fit, coprime, reaches) = fit-for (verdict-passes e) in
+        let accepted = accepted-is m p q .1 (record { primitive-p = fit .primitive-p; linear = fit .linear; coprime = coprime }) in
+        acceptedAt-both m floor p q .1 (accepted, reaches)

@@ -1,4 +1,4 @@
-// Judging a pair of a lawful degree.
+// Judging a pair of a lawful degree at a floor.
 ghost use mathlib.Core.Path.{_≡_};
 ghost use Rattle.definitions.specs.Generator.{wellFormed};
 ghost use Rattle.number_laws.specs.Bounds.{LawfulDegree};
@@ -8,6 +8,7 @@ use definitions::Judgement;
 use definitions::Refusal;
 use fractions::degrees;
 use fractions::quotients;
+use orders::floors;
 use orders::primitive;
 use orders::step;
 use polynomial::digits;
@@ -53,10 +54,11 @@ fn check_polynomials(m: u32, p: u32, q: u32) -> Verdict
     Verdict::Passed
 }
 
-// Refusal 3, 4, 5 or 6. Whether the step is coprime to 2^m - 1 is told by q's order, so that nobody looks for the step.
-pub fn check_pair(m: u32, p: u32, q: u32) -> Verdict
+// Refusal 3, 4, 5, 6 or 11. Whether the step is coprime to 2^m - 1 is told by q's order, and whether it is below the floor by the powers of x below
+// it, so that nobody looks for the step.
+pub fn check_pair(m: u32, floor: u32, p: u32, q: u32) -> Verdict
     requires { ⌜ LawfulDegree m ⌝ }
-    ensures { λ r. ⌜ r ≡ pairVerdict m p q ⌝ }
+    ensures { λ r. ⌜ r ≡ pairVerdict m floor p q ⌝ }
 {
     match check_polynomials(m, p, q) {
         Verdict::Refused(refusal) => Verdict::Refused(refusal),
@@ -64,15 +66,18 @@ pub fn check_pair(m: u32, p: u32, q: u32) -> Verdict
             if !primitive::has_full_order(m, p, q) {
                 return Verdict::Refused(Refusal::StepNotCoprime);
             }
+            if !floors::reaches_floor(m, floor, p, q) {
+                return Verdict::Refused(Refusal::StepBelowFloor);
+            }
             Verdict::Passed
         }
     }
 }
 
 // The step of a pair, or the same refusal: here the step is looked for, and itself held to 2^m - 1.
-pub fn judge_pair(m: u32, p: u32, q: u32) -> Judgement
+pub fn judge_pair(m: u32, floor: u32, p: u32, q: u32) -> Judgement
     requires { ⌜ LawfulDegree m ⌝ }
-    ensures { λ r. ⌜ r ≡ pairJudgement m p q ⌝ }
+    ensures { λ r. ⌜ r ≡ pairJudgement m floor p q ⌝ }
 {
     match check_polynomials(m, p, q) {
         Verdict::Refused(refusal) => Judgement::Rejected(refusal),
@@ -80,6 +85,9 @@ pub fn judge_pair(m: u32, p: u32, q: u32) -> Judgement
             let step = step::find_step(m, p, q);
             if common_divisor::gcd_of(step, digits::leading_term(m) - 1) != 1 {
                 return Judgement::Rejected(Refusal::StepNotCoprime);
+            }
+            if !floors::reaches_floor(m, floor, p, q) {
+                return Judgement::Rejected(Refusal::StepBelowFloor);
             }
             Judgement::Accepted(step)
         }

@@ -13,7 +13,7 @@ use Rattle.interface.specs.declared.FenyurkaList.{FenyurkaList}
 
 -- The list that C means.
 abbrev pub listOf : FenyurkaList → Selection
-listOf list = record { degree = list .degree; top = list .top }
+listOf list = record { degree = list .degree; top = list .top; floor = list .floor }
 
 abbrev pub pageOf : FenyurkaList → Position → PageRequest
 pageOf list position = pageRequest (listOf list) position

@@ -24,11 +24,12 @@ use results::FenyurkaPoints;
 use results::FenyurkaQuotients;
 use results::FenyurkaTValue;
 
-// Which ranked list is meant: the degree and the top dimension.
+// Which ranked list is meant: the degree, the top dimension and the floor.
 #[repr(C)]
 pub struct FenyurkaList {
     pub degree: u32,
     pub top: u32,
+    pub floor: u32,
 }
 
 // The request for a page of a list from a position.
@@ -38,16 +39,17 @@ fn page_request(list: FenyurkaList, position: Position) -> PageRequest
     let selected = Selection {
         degree: list.degree,
         top: list.top,
+        floor: list.floor,
     };
     ranking::request(selected, position)
 }
 
-// The step of a pair.
+// The step of a pair, at least the floor.
 #[no_mangle]
-pub extern "C" fn fenyurka_judge(degree: u32, p: u32, q: u32) -> FenyurkaJudgement
-    ensures { λ r. ⌜ r ≡ judgementResult (judgementValues (judgement degree p q)) ⌝ }
+pub extern "C" fn fenyurka_judge(degree: u32, floor: u32, p: u32, q: u32) -> FenyurkaJudgement
+    ensures { λ r. ⌜ r ≡ judgementResult (judgementValues (judgement degree floor p q)) ⌝ }
 {
-    results::judgement(generator::judge(degree, p, q))
+    results::judgement(generator::judge(degree, floor, p, q))
 }
 
 // How bad a pair's quotients are.
@@ -89,19 +91,20 @@ pub extern "C" fn fenyurka_page_after(
     results::page(ranking::page(page_request(list, Position::After(p, q)), rows))
 }
 
-// Words of a pair's period, and how many were written.
+// Words of a pair's period, the step at least the floor, and how many were written.
 #[no_mangle]
 pub extern "C" fn fenyurka_points(
     degree: u32,
+    floor: u32,
     p: u32,
     q: u32,
     first: u32,
     words: &mut [u32],
 ) -> FenyurkaPoints
-    ensures { λ r. ⌜ r ≡ pointsResult (pointsValues (pointsAnswer degree p q first (now (words .entry)))) ⌝ }
-    ensures { λ r. ⌜ now (words .exit) ≡ pointsSlice degree p q first (now (words .entry)) ⌝ }
+    ensures { λ r. ⌜ r ≡ pointsResult (pointsValues (pointsAnswer degree floor p q first (now (words .entry)))) ⌝ }
+    ensures { λ r. ⌜ now (words .exit) ≡ pointsSlice degree floor p q first (now (words .entry)) ⌝ }
 {
-    results::points(points::points(degree, p, q, first, words))
+    results::points(points::points(degree, floor, p, q, first, words))
 }
 
 // How many degrees a catalogue has.
@@ -131,11 +134,11 @@ pub extern "C" fn fenyurka_row(list: FenyurkaList, body: &[u8], place: usize) ->
     catalogue_results::row(catalogue_rows::row_at(body, degree, top, place), top, next)
 }
 
-// Writes the catalogue that entries ask for, degree, T, degree, T, .., and says how many bytes it has.
+// Writes the catalogue that entries ask for, degree, T, degree, T, .., each list at the floor, and says how many bytes it has.
 #[no_mangle]
-pub extern "C" fn fenyurka_write(entries: &[u32], file: &mut [u8]) -> FenyurkaFile
-    ensures { λ r. ⌜ r ≡ fileResult (fileValues (fileAnswer (now (entries .entry)) (now (file .entry)))) ⌝ }
-    ensures { λ _. ⌜ now (file .exit) ≡ fileBuffer (now (entries .entry)) (now (file .entry)) ⌝ }
+pub extern "C" fn fenyurka_write(floor: u32, entries: &[u32], file: &mut [u8]) -> FenyurkaFile
+    ensures { λ r. ⌜ r ≡ fileResult (fileValues (fileAnswer floor (now (entries .entry)) (now (file .entry)))) ⌝ }
+    ensures { λ _. ⌜ now (file .exit) ≡ fileBuffer floor (now (entries .entry)) (now (file .entry)) ⌝ }
 {
-    catalogue_results::file(catalogue_writer::write(entries, file))
+    catalogue_results::file(catalogue_writer::write(floor, entries, file))
 }

@@ -1,8 +1,8 @@
-// What the library covers: its degrees, its dimensions and its top dimensions. These bounds stand nowhere else in the code.
+// What the library covers: its degrees, its dimensions, its top dimensions and its floors. These bounds stand nowhere else in the code.
 ghost use mathlib.Core.Path.{_≡_};
 ghost use mathlib.Core.Bool.{_&&_};
 ghost use lib.Dec.{leb};
-ghost use Rattle.definitions.specs.Generator.{lawfulDegree};
+ghost use Rattle.definitions.specs.Generator.{lawfulDegree, lawfulFloor};
 ghost use Rattle.definitions.specs.Ranking.{lawfulTop, lawfulDimension};
 
 pub const LEAST_DEGREE: u32 = 2;
@@ -14,6 +14,8 @@ pub const LEAST_TOP: u32 = 3;
 pub const LARGEST_TOP: u32 = 8;
 
 pub const LEAST_DIMENSION: u32 = 1;
+
+pub const LARGEST_FLOOR: u32 = 32;
 
 // The most coordinates that a point has here.
 pub const COORDINATES: usize = LARGEST_TOP as usize;
@@ -41,6 +43,12 @@ pub fn is_lawful_top(top: u32) -> bool
     ensures { λ r. ⌜ r ≡ lawfulTop top ⌝ }
 {
     between(top, LEAST_TOP, LARGEST_TOP)
+}
+
+pub fn is_lawful_floor(floor: u32) -> bool
+    ensures { λ r. ⌜ r ≡ lawfulFloor floor ⌝ }
+{
+    floor <= LARGEST_FLOOR
 }
 
 // The dimension of a single t-value.

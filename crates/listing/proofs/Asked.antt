@@ -1,4 +1,4 @@
--- What is asked: the numbers of the line, and the defaults behind them; a line of more than three is read as one that has none.
+-- What is asked: the numbers of the line, and the defaults behind them; a line of more than four is read as one that has none.
 -- By cases on the numbers, which stand over the front of the defaults.
 -- Assumes nothing.
 use mathlib.Core.Path.{_≡_, refl}
@@ -10,12 +10,12 @@ use lib.Dec.{leb}
 use lib.ListN.{length, getD}
 use borrow.Author.Tests.{lt-leb, leb-true}
 use Rattle.definitions.specs.Number.{over}
-use Rattle.definitions.specs.Listing.{defaultTop, defaultSize, lineNumbers, numbersWithin, asked, readLine}
+use Rattle.definitions.specs.Listing.{defaultTop, defaultSize, defaultFloor, lineNumbers, numbersWithin, asked, readLine}
 use Rattle.definitions.specs.declared.Line.the-variants.{Asked, Unreadable}
 
--- The most numbers of a line: degree, top dimension and page size.
+-- The most numbers of a line: degree, top dimension, page size and floor.
 abbrev pub mostNumbers : ℕ
-mostNumbers = 3
+mostNumbers = 4
 
 read-within : (s : List ℕ) → readLine s ≡ asked (numbersWithin mostNumbers s)
 unfolding readLine numbersWithin asked
@@ -26,7 +26,8 @@ read-within s = go (lineNumbers s) refl
     go (a ∷ []) e = rw (e, numbersWithin, e)
     go (a ∷ b ∷ []) e = rw (e, numbersWithin, e)
     go (a ∷ b ∷ c ∷ []) e = rw (e, numbersWithin, e)
-    go (a ∷ b ∷ c ∷ d ∷ l) e = rw (e, numbersWithin, lt-leb (length (a ∷ b ∷ c ∷ d ∷ l)) mostNumbers (omega arith))
+    go (a ∷ b ∷ c ∷ d ∷ []) e = rw (e, numbersWithin, e)
+    go (a ∷ b ∷ c ∷ d ∷ n ∷ l) e = rw (e, numbersWithin, lt-leb (length (a ∷ b ∷ c ∷ d ∷ n ∷ l)) mostNumbers (omega arith))
 
 within-few : (s : List ℕ) → length (numbersWithin mostNumbers s) ≤ mostNumbers
 unfolding numbersWithin
@@ -38,7 +39,7 @@ within-few s = go (leb (length (lineNumbers s)) mostNumbers) refl
 
 -- The numbers that are read take the place of the first defaults.
 abbrev defaults : List ℕ
-defaults = 0 ∷ defaultTop ∷ defaultSize ∷ []
+defaults = 0 ∷ defaultTop ∷ defaultSize ∷ defaultFloor ∷ []
 
 module _ (s : List ℕ) {r : ℕ} (count : r ≡ length (numbersWithin mostNumbers s)) where
   pub asked-none : r ≡ 0 → Unreadable ≡ readLine s
@@ -50,14 +51,15 @@ module _ (s : List ℕ) {r : ℕ} (count : r ≡ length (numbersWithin mostNumbe
       go (m ∷ l) e = absurd (omega arith)
 
   pub asked-some : {exit : List ℕ} → exit ≡ over 0 (numbersWithin mostNumbers s) defaults → (r ≡ 0 → ⊥)
-      → Asked (getD exit 0 0) (getD exit 1 0) (getD exit 2 0) ≡ readLine s
+      → Asked (getD exit 0 0) (getD exit 1 0) (getD exit 2 0) (getD exit 3 0) ≡ readLine s
   unfolding over asked
   asked-some {exit} stored some = rw (read-within s) (go (numbersWithin mostNumbers s) count (within-few s) stored)
     where
       go : (l : List ℕ) → r ≡ length l → length l ≤ mostNumbers → exit ≡ over 0 l defaults
-          → Asked (getD exit 0 0) (getD exit 1 0) (getD exit 2 0) ≡ asked l
+          → Asked (getD exit 0 0) (getD exit 1 0) (getD exit 2 0) (getD exit 3 0) ≡ asked l
       go [] e f h = absurd (some e)
       go (m ∷ []) e f h = rw h
       go (m ∷ top ∷ []) e f h = rw h
       go (m ∷ top ∷ size ∷ []) e f h = rw h
-      go (m ∷ top ∷ size ∷ n ∷ l) e f h = absurd (omega arith)
+      go (m ∷ top ∷ size ∷ floor ∷ []) e f h = rw h
+      go (m ∷ top ∷ size ∷ floor ∷ n ∷ l) e f h = absurd (omega arith)

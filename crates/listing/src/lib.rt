@@ -7,10 +7,12 @@ use definitions::Line;
 use text::lines::put_line;
 use text::lines::put_long_line;
 
-// What is asked where the line does not say it; T as in document 02.
+// What is asked where the line does not say it; T and the floor as in document 02.
 const DEFAULT_TOP: u32 = 8;
 
 const DEFAULT_SIZE: u32 = 50;
+
+const DEFAULT_FLOOR: u32 = 32;
 
 // The largest page size.
 pub const LARGEST_SIZE: u32 = 1000;
@@ -20,11 +22,11 @@ pub const LARGEST_SIZE: u32 = 1000;
 pub fn read_line(input: &[u8]) -> Line
     ensures { λ r. ⌜ r ≡ readLine (now (input .entry)) ⌝ }
 {
-    let mut asked = [0, DEFAULT_TOP, DEFAULT_SIZE];
+    let mut asked = [0, DEFAULT_TOP, DEFAULT_SIZE, DEFAULT_FLOOR];
     if line::read_numbers(input, &mut asked) == 0 {
         return Line::Unreadable;
     }
-    Line::Asked(asked[0], asked[1], asked[2])
+    Line::Asked(asked[0], asked[1], asked[2], asked[3])
 }
 
 // The decimal digits of n.

@@ -18,8 +18,8 @@ fn refuse(refusal: Refusal) -> Printing
 }
 
 // The list, or its refusal: an unlawful page size first, then the refusals of a page, which no row fits where the size is 0.
-pub(crate) fn decide(degree: u32, top: u32, size: u32) -> Printing
-    ensures { λ r. ⌜ r ≡ printingOf (Asked degree top size) ⌝ }
+pub(crate) fn decide(degree: u32, top: u32, size: u32, floor: u32) -> Printing
+    ensures { λ r. ⌜ r ≡ printingOf (Asked degree top size floor) ⌝ }
 {
     if size > listing::LARGEST_SIZE {
         return Printing::Refused(UNREADABLE);
@@ -30,8 +30,11 @@ pub(crate) fn decide(degree: u32, top: u32, size: u32) -> Printing
     if !limits::is_lawful_top(top) {
         return refuse(Refusal::WrongDimension);
     }
+    if !limits::is_lawful_floor(floor) {
+        return refuse(Refusal::WrongFloor);
+    }
     if size == 0 {
         return refuse(Refusal::ShortSlice);
     }
-    Printing::Whole(Selection { degree, top }, size)
+    Printing::Whole(Selection { degree, top, floor }, size)
 }

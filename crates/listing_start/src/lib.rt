@@ -29,7 +29,7 @@ pub fn start(input: &[u8]) -> Printing
     ensures { λ r. ⌜ r ≡ printingOf (readLine (now (input .entry))) ⌝ }
 {
     match listing::read_line(input) {
-        Line::Asked(degree, top, size) => asking::decide(degree, top, size),
+        Line::Asked(degree, top, size, floor) => asking::decide(degree, top, size, floor),
         Line::Unreadable => Printing::Refused(asking::UNREADABLE),
     }
 }

@@ -1,5 +1,6 @@
--- Rows come in twos: the row of a pair's mirror has the same p and the same t-values, and is in the ranked list with it. So the length of the list is
--- even, and so is that of any list whose rule admits the mirror of each pair that it admits. Assumes nothing.
+-- Rows come in twos: the row of a pair's mirror has the same p and the same t-values, and is in the ranked list with it where the floor is 0 or 1, as
+-- these floors leave nothing out. So the ranked list of every selection at floor 0 or 1 has an even length, and so has any list whose rule admits the
+-- mirror of each pair that it admits. Assumes nothing.
 use mathlib.Core.Path.{_≡_, sym, ap, _∙_, fun-ext}
 use mathlib.Core.Bool.{true}
 use mathlib.Core.List.{List, _∷_, map, List·Memᴰ}
@@ -15,6 +16,7 @@ use Rattle.number_laws.specs.Lists.{keep-in, keep-out, keep-once}
 use Rattle.polynomial_laws.specs.Power.{rem-one}
 use Rattle.fraction_laws.specs.WellFormed.{wellFormed-is}
 use Rattle.order_laws.specs.Cycle.{degree-big}
+use Rattle.order_laws.specs.Floor.{acceptedAt-accepted, small-floor-accepted}
 use Rattle.page_laws.specs.Insertion.{sort-length}
 use Rattle.ranking_laws.specs.Pairs.{allPairs-in, allPairs-out, allPairs-once}
 use Rattle.ranking_laws.specs.Rule.{Rule, metBy, rankedBy}
@@ -41,9 +43,10 @@ module _ (l : Selection) (p q : ℕ) (low : leastDegree ≤ l .degree) (w : well
       ≡ p ∷ inverse (l .degree) p q ∷ (period (l .degree) - step (l .degree) p q) ∷ tValues (l .degree) (l .top) p q
   mirror-row = rw (row-def l p (inverse (l .degree) p q), mirror-step (l .degree) p q low w t, mirror-tValues (l .degree) p q low w t (l .top))
 
-  pub mirror-ranked : List·Memᴰ (row l p (inverse (l .degree) p q)) (ranked l)
-  mirror-ranked =
-      ranked-in l (mirror (l .degree) (record { p = p; q = q })) (mirror-wellFormed (l .degree) p q low w t) (mirror-accepted (l .degree) p q low w t)
+  pub mirror-ranked : l .floor ≤ 1 → List·Memᴰ (row l p (inverse (l .degree) p q)) (ranked l)
+  mirror-ranked small =
+      ranked-in l (mirror (l .degree) (record { p = p; q = q })) (mirror-wellFormed (l .degree) p q low w t)
+      (small-floor-accepted (l .degree) (l .floor) p (inverse (l .degree) p q) small ∙ mirror-accepted (l .degree) p q low w t)
 
 -- ---- even lengths
 
@@ -73,6 +76,10 @@ module _ (k : Rule) (low : leastDegree ≤ k .degree)
       rw (sort-length rowKey (map (k .row) pairs), length-map pairs (k .row))
       (paired-even (mirror (k .degree)) pairs (keep-once (k .admits) (allPairs (k .degree)) (allPairs-once (k .degree))) paired)
 
--- THE RANKED LIST OF EVERY SELECTION OF A LAWFUL DEGREE HAS AN EVEN LENGTH.
-pub ranked-even : (l : Selection) → leastDegree ≤ l .degree → length (ranked l) % 2 ≡ 0
-ranked-even l low = rw (ranked-is l) (rankedBy-even (ruleOf l) low (λ s w t. mirror-accepted (l .degree) (s .p) (s .q) low w t))
+-- THE RANKED LIST OF EVERY SELECTION AT FLOOR 0 OR 1, OF A LAWFUL DEGREE, HAS AN EVEN LENGTH.
+pub ranked-even : (l : Selection) → leastDegree ≤ l .degree → l .floor ≤ 1 → length (ranked l) % 2 ≡ 0
+ranked-even l low small =
+    let m = l .degree in
+    rw (ranked-is l) (rankedBy-even (ruleOf l) low
+    (λ s w t. small-floor-accepted m (l .floor) (s .p) (inverse m (s .p) (s .q)) small
+    ∙ mirror-accepted m (s .p) (s .q) low w (acceptedAt-accepted m (l .floor) (s .p) (s .q) t)))

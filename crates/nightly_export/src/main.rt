@@ -1,4 +1,4 @@
-// The nightly export: the listing of one degree up to dimension 5, which its input line names; page size by default.
+// The nightly export: the listing of one degree up to dimension 5 at floor 0, in pages of 50 rows; its input line names them all.
 fn main() {
     listing_program::program::run();
 }

@@ -1,4 +1,4 @@
--- Laws of orders: the smallest exponent that gives 1, the table of prime divisors, primitive polynomials, the full cycle, the step, the order of q, words.
+-- Laws of orders: the smallest exponent that gives 1, the table of prime divisors, primitive polynomials, the full cycle, the step, the order of q, the floor, words.
 pub mod Exponents
 pub mod Table
 pub mod Powers
@@ -9,4 +9,5 @@ pub mod Step
 pub mod State
 pub mod Orbit
 pub mod Accepted
+pub mod Floor
 pub mod Words

@@ -2,20 +2,23 @@
 -- Assumes nothing.
 use mathlib.Core.Path.{_≡_, sym, ap, _∙_}
 use mathlib.Core.Bool.{true}
-use Prim.Native.Nat.{ℕ, _+_, _-_, _*_, _^_, _≤_, _<_}
+use Prim.Native.Nat.{ℕ, suc, _+_, _-_, _*_, _/_, _^_, _≤_, _<_}
 use native.Mathlib.Numerals.{add-one}
+use native.Mathlib.Nat.{pow-suc}
 use native.Mathlib.Omega.{arith}
 use native.Mathlib.Decide.{decLe}
+use lib.Pow.{pow-lt}
 use borrow.Author.Tests.{eq-eqb}
 use Rattle.definitions.specs.Polynomial.{rem}
-use Rattle.definitions.specs.Generator.{period, primitive, step}
+use Rattle.definitions.specs.Generator.{period, primitive, linearQuotients, step}
 use Rattle.number_laws.specs.Bounds.{LawfulDegree, lead-low}
 use Rattle.number_laws.specs.First.{first-before}
 use Rattle.number_laws.specs.Truth.{le-unless, not-both}
-use Rattle.polynomial_laws.specs.Degree.{degree-unique}
+use Rattle.polynomial_laws.specs.Degree.{HasDegree, degree-unique}
 use Rattle.polynomial_laws.specs.Division.{rem-small}
 use Rattle.polynomial_laws.specs.Power.{rem-power-suc}
 use Rattle.fraction_laws.specs.WellFormed.{WellFormed}
+use Rattle.fraction_laws.specs.Quotients.{linearQuotients-stop}
 use Rattle.order_laws.specs.Cycle.{degree-big}
 use Rattle.order_laws.specs.Step.{gives, step-def, step-from, step-power}
 
@@ -35,6 +38,34 @@ module _ (m p q : ℕ) (h : LawfulDegree m) (w : WellFormed m p q) (t : primitiv
     most = step-from m p q;
     is = sym (rem-small p (omega (arith, big)) 2 (rw (degree-unique p m (w .degree-p)) (omega (arith, lead-low h))));
   }
+
+  -- Where the quotients are linear q has the degree m - 1, and smaller powers of x are not reduced, so none of them is q.
+  pub at-leading : linearQuotients p q ≡ true → {lead : ℕ} → lead ≡ 2 ^ m → At m p q (lead / 2) (m - 1)
+  at-leading linear {lead} e = record {
+    least = omega (arith, h .low);
+    most = le-unless early;
+    is = half-is ∙ sym (small (m - 1) (omega (arith, h .low)));
+  }
+    where
+      whole : suc (m - 1) ≡ m
+      whole = omega (arith, h .low)
+
+      half-is : lead / 2 ≡ 2 ^ (m - 1)
+      half-is = let double : 2 ^ suc (m - 1) ≡ 2 ^ m = ap (λ (k : ℕ). 2 ^ k) whole in omega (arith, pow-suc 2 (m - 1))
+
+      small : (k : ℕ) → k < m → rem (2 ^ k) p ≡ 2 ^ k
+      small k l = rem-small p (omega (arith, big)) (2 ^ k) (rw (degree-unique p m (w .degree-p)) (pow-lt l))
+
+      leading : 2 ^ (m - 1) ≤ q
+      leading =
+          let degree : HasDegree p (suc (m - 1)) = rw whole (w .degree-p) in
+          le-unless (λ l. not-both linear (linearQuotients-stop degree (w .nonzero) l))
+
+      early : step m p q < m - 1 → ⊥
+      early l =
+          let power : 2 ^ step m p q ≡ q =
+          sym (small (step m p q) (omega arith)) ∙ step-power m p (omega (arith, h .low)) (w .degree-p) t q (w .nonzero) (w .smaller) in
+          omega (arith, pow-lt l, leading)
 
   pub at-found : (power e : ℕ) → At m p q power e → power ≡ q → e ≡ step m p q
   at-found power e a f = omega (arith, a .most, le-unless earlier)

@@ -18,6 +18,7 @@ use Rattle.definitions.specs.declared.Position.the-variants.{Start, After}
 use Rattle.fraction_laws.specs.Level.{root-proper}
 use Rattle.fraction_laws.specs.Tree.{tree-def}
 use Rattle.fraction_laws.specs.WellFormed.{WellFormed, wellFormed-is}
+use Rattle.order_laws.specs.Floor.{acceptedAt-accepted}
 use Rattle.page_laws.specs.Ascending.{rest-all}
 use Rattle.page_laws.specs.Search.{Search, offerAll, found, search-page, start-good}
 use Rattle.ranking_laws.specs.Met.{ruleOf, met, met-wide}
@@ -108,4 +109,4 @@ listed-pair l at-start e = let z : _≡_ {A = ℕ} 0 1 = cc in absurd (omega ari
 listed-pair l {p = p} {q = q} (after-listed {p = a} {q = b} w t) e =
     let first : a ≡ p = cc in
     let second : b ≡ q = cc in
-    (wellFormed-is (l .degree) p q .0 (rw (first, second) at w), rw (first, second) at t)
+    (wellFormed-is (l .degree) p q .0 (rw (first, second) at w), acceptedAt-accepted (l .degree) (l .floor) p q (rw (first, second) at t))

@@ -8,15 +8,18 @@ use generator::pair::Verdict;
 use polynomial::digits;
 use words::writing;
 
-// Writes words first, first + 1, .. until the slice or the period ends, and says how many; or document 01's refusal 1, 3, 4, 5, 6 or 8.
-pub fn points(degree: u32, p: u32, q: u32, first: u32, out: &mut [u32]) -> PointsAnswer
-    ensures answer { λ a. ⌜ a ≡ pointsAnswer degree p q first (now (out .entry)) ⌝ }
-    ensures slice { λ a. ⌜ now (out .exit) ≡ pointsSlice degree p q first (now (out .entry)) ⌝ }
+// Writes words first, first + 1, .. until the slice or the period ends, and says how many; or the documents' refusal 1, 12, 3, 4, 5, 6, 11 or 8.
+pub fn points(degree: u32, floor: u32, p: u32, q: u32, first: u32, out: &mut [u32]) -> PointsAnswer
+    ensures answer { λ a. ⌜ a ≡ pointsAnswer degree floor p q first (now (out .entry)) ⌝ }
+    ensures slice { λ a. ⌜ now (out .exit) ≡ pointsSlice degree floor p q first (now (out .entry)) ⌝ }
 {
     if !limits::is_lawful_degree(degree) {
         return PointsAnswer::NotWritten(Refusal::WrongDegree);
     }
-    match pair::check_pair(degree, p, q) {
+    if !limits::is_lawful_floor(floor) {
+        return PointsAnswer::NotWritten(Refusal::WrongFloor);
+    }
+    match pair::check_pair(degree, floor, p, q) {
         Verdict::Refused(refusal) => PointsAnswer::NotWritten(refusal),
         Verdict::Passed => {
             let last = digits::leading_term(degree) - 2;

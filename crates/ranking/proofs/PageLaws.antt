@@ -6,10 +6,10 @@ use Prim.Native.Nat.{ℕ, _≤_, _<_}
 use lib.ListN.{length}
 use borrow.Author.Tests.{lt-ltb, le-ltb, not-false, not-true}
 use Rattle.definitions.specs.Calls.{selectionOf, paging, positionSituations, pageRows, furtherRow, pageAnswer, pageSlice}
-use Rattle.definitions.specs.Generator.{lawfulDegree}
+use Rattle.definitions.specs.Generator.{lawfulDegree, lawfulFloor}
 use Rattle.definitions.specs.Ranking.{lawfulTop, rowWidth, cutOf}
 use Rattle.definitions.specs.declared.Refusal.{Refusal}
-use Rattle.definitions.specs.declared.Refusal.the-variants.{WrongDegree, WrongDimension, ShortSlice}
+use Rattle.definitions.specs.declared.Refusal.the-variants.{WrongDegree, WrongDimension, WrongFloor, ShortSlice}
 use Rattle.definitions.specs.declared.PageRequest.{PageRequest}
 use Rattle.definitions.specs.declared.PageAnswer.{PageAnswer}
 use Rattle.definitions.specs.declared.PageAnswer.the-variants.{Page, NoPage}
@@ -37,23 +37,29 @@ module _ (r : PageRequest) (s : List ℕ) where
     wrong-top t = refused (later (rw d) (here (rw t)))
 
     module _ (t : lawfulTop (r .top) ≡ true) where
-      pub wrong-position : {n : Refusal} → Decides n (positionSituations (r .degree) (r .position)) → Done (NoPage n) s
+      pub wrong-floor : lawfulFloor (r .floor) ≡ false → Done (NoPage WrongFloor) s
       unfolding paging
-      wrong-position p = refused (later (rw d) (later (rw t) (decides-front _ p)))
+      wrong-floor f = refused (later (rw d) (later (rw t) (here (rw f))))
 
-      module _ (p : NoneApplies (positionSituations (r .degree) (r .position))) where
-        pub short-slice : length s < rowWidth (selectionOf r) → Done (NoPage ShortSlice) s
+      module _ (f : lawfulFloor (r .floor) ≡ true) where
+        pub wrong-position : {n : Refusal} → Decides n (positionSituations (r .degree) (r .floor) (r .position)) → Done (NoPage n) s
         unfolding paging
-        short-slice h = refused (later (rw d) (later (rw t) (decides-behind p (here (lt-ltb _ _ h)))))
+        wrong-position p = refused (later (rw d) (later (rw t) (later (rw f) (decides-front _ p))))
 
-        none-applies : rowWidth (selectionOf r) ≤ length s → NoneApplies (paging r s)
-        unfolding paging
-        none-applies h =
-            let degree : not (lawfulDegree (r .degree)) ≡ false = rw d in
-            let top : not (lawfulTop (r .top)) ≡ false = rw t in
-            passes degree (passes top (none-append p (passes (le-ltb _ _ h) at-end)))
+        module _ (p : NoneApplies (positionSituations (r .degree) (r .floor) (r .position))) where
+          pub short-slice : length s < rowWidth (selectionOf r) → Done (NoPage ShortSlice) s
+          unfolding paging
+          short-slice h = refused (later (rw d) (later (rw t) (later (rw f) (decides-behind p (here (lt-ltb _ _ h))))))
 
-        pub page-filled : rowWidth (selectionOf r) ≤ length s → {x : Served} {o : List ℕ}
-            → Filled (selectionOf r) (cutOf (selectionOf r) (r .position)) s x o → Done (Page (x .rows) (x .further)) o
-        unfolding pageRows furtherRow
-        page-filled h f = rw (f .count, f .further, f .written) (answers-page r s (answered-given (none-applies h)))
+          none-applies : rowWidth (selectionOf r) ≤ length s → NoneApplies (paging r s)
+          unfolding paging
+          none-applies h =
+              let degree : not (lawfulDegree (r .degree)) ≡ false = rw d in
+              let top : not (lawfulTop (r .top)) ≡ false = rw t in
+              let floor : not (lawfulFloor (r .floor)) ≡ false = rw f in
+              passes degree (passes top (passes floor (none-append p (passes (le-ltb _ _ h) at-end))))
+
+          pub page-filled : rowWidth (selectionOf r) ≤ length s → {x : Served} {o : List ℕ}
+              → Filled (selectionOf r) (cutOf (selectionOf r) (r .position)) s x o → Done (Page (x .rows) (x .further)) o
+          unfolding pageRows furtherRow
+          page-filled h x = rw (x .count, x .further, x .written) (answers-page r s (answered-given (none-applies h)))

@@ -19,29 +19,29 @@ use Rattle.generator.specs.declared.pair.Verdict.{Verdict}
 use Rattle.generator.specs.declared.pair.Verdict.the-variants.{Refused, Passed}
 use Rattle.ranking.specs.Positions.{positionVerdict}
 
-module _ (m : ℕ) {at : Position} where
-  pub start-passes : at ≡ Start → Passed ≡ positionVerdict m at
+module _ (m floor : ℕ) {at : Position} where
+  pub start-passes : at ≡ Start → Passed ≡ positionVerdict m floor at
   unfolding positionVerdict positionSituations
   start-passes e = rw e (sym (unless-given Refused Passed at-end))
 
-  pub pair-decides : {p q : ℕ} {v : Verdict} → at ≡ After p q → v ≡ pairVerdict m p q → v ≡ positionVerdict m at
+  pub pair-decides : {p q : ℕ} {v : Verdict} → at ≡ After p q → v ≡ pairVerdict m floor p q → v ≡ positionVerdict m floor at
   unfolding positionVerdict positionSituations pairVerdict
   pair-decides e h = rw e h
 
 never : (r : Refusal) → Refused r ≡ Passed → ⊥
 never r e = let z : _≡_ {A = ℕ} 0 1 = cc in omega arith
 
-module _ (m : ℕ) (at : Position) where
-  pub position-decides : {r : Refusal} → positionVerdict m at ≡ Refused r → Decides r (positionSituations m at)
+module _ (m floor : ℕ) (at : Position) where
+  pub position-decides : {r : Refusal} → positionVerdict m floor at ≡ Refused r → Decides r (positionSituations m floor at)
   unfolding positionVerdict
-  position-decides {r} = refused-exactly Refused Passed (positionSituations m at) r (λ e. never r (sym e)) (λ k e. cc) .0
+  position-decides {r} = refused-exactly Refused Passed (positionSituations m floor at) r (λ e. never r (sym e)) (λ k e. cc) .0
 
-  pub position-passes : positionVerdict m at ≡ Passed → NoneApplies (positionSituations m at)
+  pub position-passes : positionVerdict m floor at ≡ Passed → NoneApplies (positionSituations m floor at)
   unfolding positionVerdict
-  position-passes = given-exactly Refused Passed (positionSituations m at) never .0
+  position-passes = given-exactly Refused Passed (positionSituations m floor at) never .0
 
-pub position-listed : (l : Selection) (at : Position) → positionVerdict (l .degree) at ≡ Passed → ListedPosition (ruleOf l) at
+pub position-listed : (l : Selection) (at : Position) → positionVerdict (l .degree) (l .floor) at ≡ Passed → ListedPosition (ruleOf l) at
 unfolding positionVerdict positionSituations pairVerdict
 position-listed l Start e = at-start
 position-listed l (After p q) e =
-    after-listed (wellFormed-is (l .degree) p q .1 (passed-well-formed (l .degree) p q e)) (passed-accepted (l .degree) p q e)
+    after-listed (wellFormed-is (l .degree) p q .1 (passed-well-formed (l .degree) (l .floor) p q e)) (passed-accepted (l .degree) (l .floor) p q e)

@@ -6,5 +6,5 @@ use Rattle.definitions.specs.declared.Position.{Position}
 use Rattle.generator.specs.declared.pair.Verdict.{Verdict}
 use Rattle.generator.specs.declared.pair.Verdict.the-variants.{Refused, Passed}
 
-unfoldable pub positionVerdict : ℕ → Position → Verdict
-positionVerdict m at = unless (positionSituations m at) Refused Passed
+unfoldable pub positionVerdict : ℕ → ℕ → Position → Verdict
+positionVerdict m floor at = unless (positionSituations m floor at) Refused Passed

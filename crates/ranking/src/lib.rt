@@ -19,12 +19,13 @@ pub fn request(list: Selection, position: Position) -> PageRequest
     PageRequest {
         degree: list.degree,
         top: list.top,
+        floor: list.floor,
         position: position,
     }
 }
 
-// The rows of the ranked list above the position, as many as fit `out`, from its front: how many, and whether a further row exists; or document
-// 01's refusal 1 or 2, 3 to 6 for a position after a pair, or 7. Every number behind the rows stays, and a refusal writes nothing.
+// The rows of the ranked list above the position, as many as fit `out`, from its front: how many, and whether a further row exists; or the
+// documents' refusal 1, 2 or 12, 3 to 6 or 11 for a position after a pair, or 7. Every number behind the rows stays, and a refusal writes nothing.
 pub fn page(request: PageRequest, out: &mut [u32]) -> PageAnswer
     ensures answer { λ a. ⌜ a ≡ pageAnswer request (now (out .entry)) ⌝ }
     ensures slice { λ a. ⌜ now (out .exit) ≡ pageSlice request (now (out .entry)) ⌝ }
@@ -32,6 +33,7 @@ pub fn page(request: PageRequest, out: &mut [u32]) -> PageAnswer
     let list = Selection {
         degree: request.degree,
         top: request.top,
+        floor: request.floor,
     };
     let position = request.position;
     if !limits::is_lawful_degree(list.degree) {
@@ -40,7 +42,10 @@ pub fn page(request: PageRequest, out: &mut [u32]) -> PageAnswer
     if !limits::is_lawful_top(list.top) {
         return PageAnswer::NoPage(Refusal::WrongDimension);
     }
-    match position::check_position(list.degree, position) {
+    if !limits::is_lawful_floor(list.floor) {
+        return PageAnswer::NoPage(Refusal::WrongFloor);
+    }
+    match position::check_position(list.degree, list.floor, position) {
         Verdict::Refused(refusal) => PageAnswer::NoPage(refusal),
         Verdict::Passed => {
             if out.len() < frame::width_of(list) {

@@ -7,12 +7,12 @@ use generator::pair;
 use generator::pair::Verdict;
 
 // Why a position is refused, as its pair is, or that it is not.
-pub fn check_position(degree: u32, position: Position) -> Verdict
+pub fn check_position(degree: u32, floor: u32, position: Position) -> Verdict
     requires { ⌜ LawfulDegree degree ⌝ }
-    ensures { λ r. ⌜ r ≡ positionVerdict degree position ⌝ }
+    ensures { λ r. ⌜ r ≡ positionVerdict degree floor position ⌝ }
 {
     match position {
         Position::Start => Verdict::Passed,
-        Position::After(p, q) => pair::check_pair(degree, p, q),
+        Position::After(p, q) => pair::check_pair(degree, floor, p, q),
     }
 }

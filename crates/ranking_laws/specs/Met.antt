@@ -1,5 +1,5 @@
--- The rows met on a walk: those of the pairs that the selected list has. The list's rule is that its pairs are the accepted ones, and that the
--- t-values follow p, q, σ in a row; each law is the rule's. Assumes nothing.
+-- The rows met on a walk: those of the pairs that the selected list has. The list's rule is that its pairs are those accepted at its floor, and that
+-- the t-values follow p, q, σ in a row; each law is the rule's. Assumes nothing.
 use mathlib.Core.Path.{_≡_, refl, _∙_}
 use mathlib.Core.Bool.{true, false}
 use mathlib.Core.List.{List, [], _∷_, _++_}
@@ -8,10 +8,11 @@ use native.Mathlib.Omega.{arith}
 use lib.ListN.{length, length-map}
 use Rattle.definitions.specs.declared.Selection.{Selection}
 use Rattle.definitions.specs.Number.{numbers}
-use Rattle.definitions.specs.Generator.{Pair, accepted, step}
+use Rattle.definitions.specs.Generator.{Pair, acceptedAt, step}
 use Rattle.definitions.specs.Net.{tValue}
 use Rattle.definitions.specs.Ranking.{leastTop, rowWidth, tValues, row, rowKey}
 use Rattle.number_laws.specs.Lists.{numbers-length}
+use Rattle.order_laws.specs.Floor.{acceptedAt-accepted}
 use Rattle.page_laws.specs.Rows.{Wide}
 use Rattle.ranking_laws.specs.Rule.{Rule, widthBy, metBy, metBy-none, metBy-more, metBy-less, metBy-append, metBy-length, metBy-wide, row-width}
 
@@ -31,8 +32,8 @@ tValues-length m top p q = length-map (numbers leastTop (suc top - leastTop)) (t
 abbrev pub ruleOf : Selection → Rule
 ruleOf l = record {
   degree = l .degree;
-  admits = λ (s : Pair). accepted (l .degree) (s .p) (s .q);
-  only-accepted = λ s t. t;
+  admits = λ (s : Pair). acceptedAt (l .degree) (l .floor) (s .p) (s .q);
+  only-accepted = λ s t. acceptedAt-accepted (l .degree) (l .floor) (s .p) (s .q) t;
   row = λ (s : Pair). row l (s .p) (s .q);
   ranks = λ (s : Pair). tValues (l .degree) (l .top) (s .p) (s .q);
   begins = λ s. row-def l (s .p) (s .q);
@@ -46,7 +47,7 @@ width-is l h = omega arith
 pub row-length : (l : Selection) (p q : ℕ) → leastTop ≤ l .top → length (row l p q) ≡ rowWidth l
 row-length l p q h = row-width (ruleOf l) (record { p = p; q = q }) ∙ width-is l h
 
--- The rows of the accepted pairs among those given, in their order.
+-- The rows of the pairs accepted at the floor among those given, in their order.
 unfoldable pub met : Selection → List Pair → List (List ℕ)
 met l pairs = metBy (ruleOf l) pairs
 
@@ -55,11 +56,11 @@ module _ (l : Selection) where
   unfolding met
   met-none = metBy-none (ruleOf l)
 
-  pub met-more : (s : Pair) (pairs : List Pair) → accepted (l .degree) (s .p) (s .q) ≡ true → met l (s ∷ pairs) ≡ row l (s .p) (s .q) ∷ met l pairs
+  pub met-more : (s : Pair) (pairs : List Pair) → acceptedAt (l .degree) (l .floor) (s .p) (s .q) ≡ true → met l (s ∷ pairs) ≡ row l (s .p) (s .q) ∷ met l pairs
   unfolding met
   met-more s pairs t = metBy-more (ruleOf l) s pairs t
 
-  pub met-less : (s : Pair) (pairs : List Pair) → accepted (l .degree) (s .p) (s .q) ≡ false → met l (s ∷ pairs) ≡ met l pairs
+  pub met-less : (s : Pair) (pairs : List Pair) → acceptedAt (l .degree) (l .floor) (s .p) (s .q) ≡ false → met l (s ∷ pairs) ≡ met l pairs
   unfolding met
   met-less s pairs t = metBy-less (ruleOf l) s pairs t
 

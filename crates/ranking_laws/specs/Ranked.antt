@@ -1,12 +1,12 @@
 -- The ranked list of a selection: it ascends strictly by key, each row has the width of T, and a row is in it exactly where its pair is
--- well-formed and accepted, once; on the tree its rows are met. Each law is the rule's. Assumes nothing.
+-- well-formed and accepted at the floor, once; on the tree its rows are met. Each law is the rule's. Assumes nothing.
 use mathlib.Core.Path.{_≡_, refl, sym, _∙_}
 use mathlib.Core.Bool.{true}
 use mathlib.Core.List.{List, List·Memᴰ, List·Nodup}
 use Prim.Native.Nat.{ℕ, _^_, _≤_}
 use lib.ListN.{length}
 use Rattle.definitions.specs.declared.Selection.{Selection}
-use Rattle.definitions.specs.Generator.{Pair, accepted, wellFormed, tree}
+use Rattle.definitions.specs.Generator.{Pair, acceptedAt, wellFormed, tree}
 use Rattle.definitions.specs.Pages.{start, sort}
 use Rattle.definitions.specs.Ranking.{leastTop, rowWidth, row, rowKey, listedPairs, ranked}
 use Rattle.page_laws.specs.Ascending.{Ascends}
@@ -15,7 +15,7 @@ use Rattle.ranking_laws.specs.Rule.{metBy, rankedBy, ListedRow, rankedBy
 use Rattle.ranking_laws.specs.Rule.{rankedBy-few, tree-rankedBy}
 use Rattle.ranking_laws.specs.Met.{ruleOf, width-is, met}
 
--- A row of the ranked list, with its pair: well-formed, accepted, and the row is its.
+-- A row of the ranked list, with its pair: well-formed, accepted at the floor, and the row is its.
 abbrev pub RankedRow : Selection → List ℕ → Type 0
 RankedRow l r = ListedRow (ruleOf l) r
 
@@ -33,7 +33,7 @@ module _ (l : Selection) where
   pub ranked-wide : leastTop ≤ l .top → Wide (rowWidth l) (ranked l)
   ranked-wide h r i = rankedBy-wide (ruleOf l) r (rw ranked-is at i) ∙ width-is l h
 
-  pub ranked-in : (s : Pair) → wellFormed (l .degree) (s .p) (s .q) ≡ true → accepted (l .degree) (s .p) (s .q) ≡ true
+  pub ranked-in : (s : Pair) → wellFormed (l .degree) (s .p) (s .q) ≡ true → acceptedAt (l .degree) (l .floor) (s .p) (s .q) ≡ true
       → List·Memᴰ (row l (s .p) (s .q)) (ranked l)
   ranked-in s w t = rw ranked-is (rankedBy-in (ruleOf l) s w t)
 

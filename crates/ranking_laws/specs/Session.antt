@@ -9,7 +9,7 @@ use native.Mathlib.Omega.{arith}
 use lib.ListN.{length}
 use borrow.Author.Tests.{le-ltb}
 use Rattle.definitions.specs.Number.{join}
-use Rattle.definitions.specs.Generator.{lawfulDegree}
+use Rattle.definitions.specs.Generator.{lawfulDegree, lawfulFloor}
 use Rattle.definitions.specs.Ranking.{lawfulTop, rowWidth, ranked, cutOf}
 use Rattle.definitions.specs.Calls.{pageRequest, paging, positionSituations, pairSituations, capacity, pageRows, furtherRow, pageAnswer, pageSlice}
 use Rattle.definitions.specs.declared.Selection.{Selection}
@@ -20,7 +20,7 @@ use Rattle.definitions.specs.declared.PageAnswer.the-variants.{Page, NoPage}
 use Rattle.answer_laws.specs.Unless.{NoneApplies, passes, at-end, none-append, unless-given}
 use Rattle.answer_laws.specs.Lent.{page-given}
 use Rattle.number_laws.specs.Bounds.{lawfulTop-is}
-use Rattle.order_laws.specs.Accepted.{accepted-is}
+use Rattle.order_laws.specs.Floor.{acceptedAt-is, reachesFloor-is}
 use Rattle.page_laws.specs.Rows.{rowsOf, rows-back}
 use Rattle.ranking_laws.specs.Met.{ruleOf, width-is}
 use Rattle.ranking_laws.specs.Ranked.{ranked-is}
@@ -48,20 +48,24 @@ module _ (l : Selection) (at : Position) (s : List ℕ) where
   unfolding furtherRow
   further-is = rw (cut-is l at, ranked-is l)
 
-module _ (l : Selection) (lawful-degree : lawfulDegree (l .degree) ≡ true) (lawful-top : lawfulTop (l .top) ≡ true) where
-  position-passes : {at : Position} → ListedPosition (ruleOf l) at → NoneApplies (positionSituations (l .degree) at)
+module _ (l : Selection) (lawful-degree : lawfulDegree (l .degree) ≡ true) (lawful-top : lawfulTop (l .top) ≡ true)
+    (lawful-floor : lawfulFloor (l .floor) ≡ true) where
+  position-passes : {at : Position} → ListedPosition (ruleOf l) at → NoneApplies (positionSituations (l .degree) (l .floor) at)
   unfolding positionSituations pairSituations
   position-passes at-start = at-end
   position-passes (after-listed {p = p} {q = q} w t) =
-      let a = accepted-is (l .degree) p q .0 t in
-      passes (ap not w) (passes (ap not (a .primitive-p)) (passes (ap not (a .linear)) (passes (ap not (a .coprime)) at-end)))
+      let a = acceptedAt-is (l .degree) (l .floor) p q .0 t in
+      let j = a .judged in
+      passes (ap not w) (passes (ap not (j .primitive-p)) (passes (ap not (j .linear)) (passes (ap not (j .coprime))
+      (passes (ap not (reachesFloor-is (l .degree) (l .floor) p q .1 (a .reaches))) at-end))))
 
   not-refused : {at : Position} → ListedPosition (ruleOf l) at → (s : List ℕ) → rowWidth l ≤ length s
       → pageAnswer (pageRequest l at) s ≡ Page (length (pageRows (pageRequest l at) s)) (furtherRow (pageRequest l at) s)
   unfolding pageAnswer paging
   not-refused h s room =
       unless-given NoPage _
-      (passes (ap not lawful-degree) (passes (ap not lawful-top) (none-append (position-passes h) (passes (le-ltb (length s) (rowWidth l) room) at-end))))
+      (passes (ap not lawful-degree) (passes (ap not lawful-top) (passes (ap not lawful-floor)
+      (none-append (position-passes h) (passes (le-ltb (length s) (rowWidth l) room) at-end)))))
 
   -- ---- a walk through the list that has come to a position, and a slice that holds a row
 

@@ -7,11 +7,12 @@ use Prim.Native.Nat.{ℕ, _+_, _*_, _≤_}
 use native.Mathlib.Nat.{mul-le-mul-right, le-trans}
 use native.Mathlib.Omega.{arith}
 use lib.ListN.{length, take, set}
-use Rattle.definitions.specs.Generator.{Pair, primitive, linearQuotients, coprimeStep, accepted, step}
+use Rattle.definitions.specs.Generator.{Pair, primitive, linearQuotients, coprimeStep, accepted, reachesFloor, acceptedAt, step}
 use Rattle.definitions.specs.Pages.{after, above}
 use Rattle.definitions.specs.Ranking.{rowKey}
 use Rattle.number_laws.specs.Truth.{truth-false, not-both}
 use Rattle.order_laws.specs.Accepted.{accepted-is}
+use Rattle.order_laws.specs.Floor.{acceptedAt-both, acceptedAt-accepted}
 use Rattle.page_laws.specs.Ascending.{above-start}
 use Rattle.page_laws.specs.Slot.{slot, slot-by-key}
 use Rattle.page_laws.specs.Rows.{rowsOf, slot-rows, Kept, inserted, inserted-none}
@@ -101,27 +102,36 @@ keeping r = record { lawful = r .framed .lawful; few = r .good .few; room = r .g
 -- ---- a pair met
 
 module _ (f : Frame) (last : List ℕ) (s : Search) (p q : ℕ) where
-  met-nothing : accepted (f .list .degree) p q ≡ false → s ≡ offers f last (met (f .list) (pair p q ∷ [])) s
+  abbrev m : ℕ
+  m = f .list .degree
+
+  abbrev floor : ℕ
+  floor = f .list .floor
+
+  met-nothing : acceptedAt m floor p q ≡ false → s ≡ offers f last (met (f .list) (pair p q ∷ [])) s
   met-nothing t =
       sym (ap (λ (rows : List (List ℕ)). offers f last rows s) (met-less (f .list) (pair p q) [] t ∙ met-none (f .list))
       ∙ offer-none rowKey (widthOf f) (f .capacity) (cutFrom f last) s)
 
-  pub pair-not-primitive : primitive (f .list .degree) p ≡ false → s ≡ offers f last (met (f .list) (pair p q ∷ [])) s
-  pair-not-primitive e =
-      met-nothing (truth-false (accepted (f .list .degree) p q) (λ t. not-both (accepted-is (f .list .degree) p q .0 t .primitive-p) e))
+  not-accepted : accepted m p q ≡ false → s ≡ offers f last (met (f .list) (pair p q ∷ [])) s
+  not-accepted e = met-nothing (truth-false (acceptedAt m floor p q) (λ t. not-both (acceptedAt-accepted m floor p q t) e))
 
-  pub pair-not-coprime : coprimeStep (f .list .degree) p q ≡ false → s ≡ offers f last (met (f .list) (pair p q ∷ [])) s
-  pair-not-coprime e =
-      met-nothing (truth-false (accepted (f .list .degree) p q) (λ t. not-both (accepted-is (f .list .degree) p q .0 t .coprime) e))
+  pub pair-not-primitive : primitive m p ≡ false → s ≡ offers f last (met (f .list) (pair p q ∷ [])) s
+  pair-not-primitive e = not-accepted (truth-false (accepted m p q) (λ t. not-both (accepted-is m p q .0 t .primitive-p) e))
 
-  pub pair-accepted : primitive (f .list .degree) p ≡ true → linearQuotients p q ≡ true → coprimeStep (f .list .degree) p q ≡ true
-      → accepted (f .list .degree) p q ≡ true
-  pair-accepted a b c = accepted-is (f .list .degree) p q .1 (record { primitive-p = a; linear = b; coprime = c })
+  pub pair-not-coprime : coprimeStep m p q ≡ false → s ≡ offers f last (met (f .list) (pair p q ∷ [])) s
+  pair-not-coprime e = not-accepted (truth-false (accepted m p q) (λ t. not-both (accepted-is m p q .0 t .coprime) e))
 
-  pub pair-offered : {o : Search} → accepted (f .list .degree) p q ≡ true → o ≡ offer f last (rowIn f p q) s
+  pub pair-below-floor : reachesFloor m floor p q ≡ false → s ≡ offers f last (met (f .list) (pair p q ∷ [])) s
+  pair-below-floor e = met-nothing (truth-false (acceptedAt m floor p q) (λ t. not-both (acceptedAt-both m floor p q .0 t .1) e))
+
+  pub pair-accepted : primitive m p ≡ true → linearQuotients p q ≡ true → coprimeStep m p q ≡ true → accepted m p q ≡ true
+  pair-accepted a b c = accepted-is m p q .1 (record { primitive-p = a; linear = b; coprime = c })
+
+  pub pair-offered : {o : Search} → accepted m p q ≡ true → reachesFloor m floor p q ≡ true → o ≡ offer f last (rowIn f p q) s
       → o ≡ offers f last (met (f .list) (pair p q ∷ [])) s
-  pair-offered t e =
+  pair-offered t r e =
       e
       ∙ sym (ap (λ (rows : List (List ℕ)). offers f last rows s)
-      (met-more (f .list) (pair p q) [] t ∙ ap (λ (rows : List (List ℕ)). rowIn f p q ∷ rows) (met-none (f .list)))
+      (met-more (f .list) (pair p q) [] (acceptedAt-both m floor p q .1 (t, r)) ∙ ap (λ (rows : List (List ℕ)). rowIn f p q ∷ rows) (met-none (f .list)))
       ∙ offer-one rowKey (widthOf f) (f .capacity) (cutFrom f last) (rowIn f p q) s)

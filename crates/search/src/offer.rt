@@ -20,6 +20,7 @@ use crate::rank;
 use crate::rank::Standing;
 use insertion::rows::insert_row;
 use limits::LONGEST_ROW;
+use orders::floors::reaches_floor;
 use orders::primitive::has_full_order;
 use orders::primitive::is_primitive;
 use orders::step::find_step;
@@ -107,7 +108,7 @@ fn offer_row(p: u32, q: u32, out: &mut [u32], t: Tally, f: Frame, last: &[u32]) 
     }
 }
 
-// Offers the row of a pair of the tree, where the pair is accepted.
+// Offers the row of a pair of the tree, where the pair is accepted at the list's floor.
 pub fn offer_pair(p: u32, q: u32, out: &mut [u32], t: Tally, f: Frame, last: &[u32]) -> Tally
     requires { ⌜ Searching f (now last) 1 (stateOf (now out) t) ⌝ }
     requires { ⌜ WellFormed (f .list .degree) p q ⌝ }
@@ -121,6 +122,9 @@ pub fn offer_pair(p: u32, q: u32, out: &mut [u32], t: Tally, f: Frame, last: &[u
         return t;
     }
     if !has_full_order(m, p, q) {
+        return t;
+    }
+    if !reaches_floor(m, list.floor, p, q) {
         return t;
     }
     offer_row(p, q, out, t, f, last)

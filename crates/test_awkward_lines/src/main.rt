@@ -1,6 +1,6 @@
-// Lines that a careless reader would take, or refuse, wrongly, and lists of many pages, with what the listing program prints for each. There is the
-// least room that is lawful, for one row and its text, so that a list comes in many parts. Lines that end with their only newline stand in the file
-// `stdin`, the others here.
+// Lines that a careless reader would take, or refuse, wrongly, lists of many pages and lists at several floors, with what the listing program prints
+// for each. There is the least room that is lawful, for one row and its text, so that a list comes in many parts. Lines that end with their only
+// newline stand in the file `stdin`, the others here.
 use limits::LONGEST_ROW;
 use listing_program::program;
 use listing_rows::STEP_ROOM;
@@ -20,15 +20,16 @@ fn main() {
     print(b"");
     print_next(1);
     print(b" ");
-    print_next(11);
-    print(b"3 4 3\x0d");
-    print_next(9);
-    print(b"\n3 4 3\n");
-    print_next(7);
-    print(b"3 4 3");
+    print_next(17);
+    print(b"3 4 3 0\x0d");
+    print_next(12);
+    print(b"\n3 4 3 0\n");
+    print_next(12);
+    print(b"3 4 3 0");
     print_next(1);
-    print(b"3 4 3\nxyz 9\n");
-    print(b"3 4 3\n3 4 4\n");
-    print(b"3");
-    print_next(30);
+    print(b"3 4 3 0\nxyz 9\n");
+    print(b"3 4 3 0\n3 4 4 0\n");
+    print(b"3 4 3\n0\n");
+    print(b"3 8 50 0");
+    print_next(70);
 }

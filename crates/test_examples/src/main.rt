@@ -36,6 +36,9 @@ const PIECE: usize = 4096;
 
 const NOT_GIVEN: u32 = 4294967295;
 
+// Document 01 is read with floor 0.
+const NO_FLOOR: u32 = 0;
+
 fn print(word: &[u8], number: u64) {
     io::write_all(STDOUT_FILENO, word);
     io::print_decimal(STDOUT_FILENO, number);
@@ -83,7 +86,7 @@ fn show_first(kind: u32, slice: &[u32; PIECE], n: usize, before: u64) -> u64 {
 }
 
 fn judge(asked: &[u32; 6]) {
-    let answer = results::judgement(generator::judge(asked[2], asked[3], asked[4]));
+    let answer = results::judgement(generator::judge(asked[2], NO_FLOOR, asked[3], asked[4]));
     print_answer(b" step ", answer.refusal, answer.step as usize);
 }
 
@@ -104,13 +107,24 @@ fn print_page(answer: FenyurkaPage) {
 }
 
 fn page(position: Position, slice: &mut [u32]) {
-    let list = Selection { degree: 3, top: 4 };
+    let list = Selection {
+        degree: 3,
+        top: 4,
+        floor: NO_FLOOR,
+    };
     print_page(results::page(ranking::page(ranking::request(list, position), slice)));
 }
 
 // The answer, and how many words were written.
 fn points(asked: &[u32; 6], slice: &mut [u32]) -> usize {
-    let answer = results::points(points::points(asked[2], asked[3], asked[4], asked[5], slice));
+    let answer = results::points(points::points(
+        asked[2],
+        NO_FLOOR,
+        asked[3],
+        asked[4],
+        asked[5],
+        slice,
+    ));
     print_answer(b" count ", answer.refusal, answer.count);
     answer.count
 }

@@ -15,6 +15,9 @@ const LINE_ROOM: usize = 40;
 
 const NOT_GIVEN: u32 = 4294967295;
 
+// Every step is large enough.
+const NO_FLOOR: u32 = 0;
+
 fn print(word: &[u8], number: u32) {
     io::write_all(STDOUT_FILENO, word);
     io::print_decimal(STDOUT_FILENO, number as u64);
@@ -28,14 +31,18 @@ fn test(m: u32, p: u32, q: u32) {
 }
 
 fn judge(m: u32, p: u32, q: u32) {
-    let answer = results::judgement(generator::judge(m, p, q));
+    let answer = results::judgement(generator::judge(m, NO_FLOOR, p, q));
     print(b" judge ", answer.refusal);
     print(b" ", answer.quotient_degree);
     print(b" ", answer.step);
 }
 
 fn page(m: u32, p: u32, q: u32) {
-    let list = Selection { degree: m, top: 3 };
+    let list = Selection {
+        degree: m,
+        top: 3,
+        floor: NO_FLOOR,
+    };
     let answer = results::page(ranking::page(
         ranking::request(list, Position::After(p, q)),
         &mut [],
@@ -45,7 +52,7 @@ fn page(m: u32, p: u32, q: u32) {
 }
 
 fn points(m: u32, p: u32, q: u32) {
-    let answer = results::points(points::points(m, p, q, 0, &mut []));
+    let answer = results::points(points::points(m, NO_FLOOR, p, q, 0, &mut []));
     print(b" points ", answer.refusal);
     print(b" ", answer.quotient_degree);
 }

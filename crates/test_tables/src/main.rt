@@ -12,6 +12,9 @@ const LINES: u32 = 8;
 
 const LINE_ROOM: usize = 80;
 
+// Every step is large enough.
+const NO_FLOOR: u32 = 0;
+
 // The degree and its coefficients.
 const MOST_NUMBERS: usize = 34;
 
@@ -50,7 +53,7 @@ fn print_pair(m: u32, p: u32, q: u32) {
     print_number(m);
     print_number(p);
     print_number(q);
-    let judgement = results::judgement(generator::judge(m, p, q));
+    let judgement = results::judgement(generator::judge(m, NO_FLOOR, p, q));
     print_number(judgement.refusal);
     print_number(judgement.step);
     print_t_values(m, p, q);

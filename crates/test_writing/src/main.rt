@@ -1,5 +1,5 @@
-// Catalogues written: each line of the input is the length of a buffer, and the entries. Before the call each byte of the buffer is 165. Printed are
-// the line as it came and what the call did:
+// Catalogues written: each line of the input is the length of a buffer, the floor, and the entries. Before the call each byte of the buffer is 165.
+// Printed are the line as it came and what the call did:
 //     length LENGTH                   of the file; or, where there is none,
 //     refused NUMBER
 //     BYTES                           of the file in hexadecimal, 32 to a line
@@ -10,11 +10,11 @@ use definitions::FileAnswer;
 use libc::STDOUT_FILENO;
 
 // As many lines as the input has.
-const LINES: u32 = 44;
+const LINES: u32 = 149;
 
 const LINE_ROOM: usize = 320;
 
-// The room, and more entries than there are degrees.
+// The room, the floor, and more entries than there are degrees.
 const MOST_NUMBERS: usize = 40;
 
 // The largest room, and what every byte of it is before a call.
@@ -58,8 +58,8 @@ fn print_buffer(file: &[u8], n: usize) {
     print_number(b"untouched ", untouched);
 }
 
-fn write(entries: &[u32], file: &mut [u8]) {
-    match catalogue_writer::write(entries, file) {
+fn write(floor: u32, entries: &[u32], file: &mut [u8]) {
+    match catalogue_writer::write(floor, entries, file) {
         FileAnswer::File(length) => {
             print_number(b"length ", length);
             print_buffer(file, length);
@@ -71,14 +71,15 @@ fn write(entries: &[u32], file: &mut [u8]) {
     }
 }
 
-// The room comes first.
+// The room comes first, then the floor.
 fn write_within(numbers: &[u32])
-    requires { ⌜ 0 < length (now numbers) ⌝ }
+    requires { ⌜ 1 < length (now numbers) ⌝ }
 {
     let mut file = [BEFORE; FILE_ROOM];
     let room = numbers[0] as usize;
+    let floor = numbers[1];
     if room <= FILE_ROOM {
-        write(&numbers[1..], &mut file[..room]);
+        write(floor, &numbers[2..], &mut file[..room]);
     }
 }
 
@@ -90,7 +91,7 @@ fn write_line() {
     new_line();
     let mut numbers = [0u32; MOST_NUMBERS];
     let count = line::read_numbers(&input, &mut numbers);
-    if count > 0 {
+    if count > 1 {
         write_within(&numbers[..count]);
     }
 }
@@ -100,8 +101,10 @@ fn main() {
         write_line();
     }
     // Numbers of ten digits, which no line has.
-    io::write_all(STDOUT_FILENO, b"100 4294967295 4\n");
-    write_within(&[100, 4294967295, 4]);
-    io::write_all(STDOUT_FILENO, b"100 3 4294967295\n");
-    write_within(&[100, 3, 4294967295]);
+    io::write_all(STDOUT_FILENO, b"100 0 4294967295 4\n");
+    write_within(&[100, 0, 4294967295, 4]);
+    io::write_all(STDOUT_FILENO, b"100 0 3 4294967295\n");
+    write_within(&[100, 0, 3, 4294967295]);
+    io::write_all(STDOUT_FILENO, b"100 4294967295 3 4\n");
+    write_within(&[100, 4294967295, 3, 4]);
 }

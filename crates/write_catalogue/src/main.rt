@@ -1,5 +1,5 @@
-// Writes the catalogue that a line of standard input asks for to standard output: degree, T, degree, T, .. A refusal goes to standard error. What is
-// written is proved of `catalogue_line`; that it is written no contract can say.
+// Writes the catalogue that a line of standard input asks for to standard output: the floor, then degree, T, degree, T, .. A refusal goes to standard
+// error. What is written is proved of `catalogue_line`; that it is written no contract can say.
 ghost use Prim.Native.Nat.{_≤_};
 ghost use lib.ListN.{length};
 ghost use Rattle.writing_laws.specs.Longest.{longestFile};
@@ -8,7 +8,7 @@ use catalogue_line::TEXT_ROOM;
 use libc::STDERR_FILENO;
 use libc::STDOUT_FILENO;
 
-// More bytes than a line that can be read: thirty numbers of nine digits, and a space behind each, are 300.
+// More bytes than a line that can be read: thirty-one numbers of nine digits, and a space behind each, are 310.
 const LINE_ROOM: usize = 320;
 
 // The answer to a line, through a buffer that holds any file.

@@ -13,7 +13,8 @@ use Rattle.definitions.specs.Net.{tValue}
 use Rattle.definitions.specs.Ranking.{leastTop, ranksFrom, tValues, row, ranked}
 use Rattle.number_laws.specs.Bounds.{LawfulDegree, LawfulTop}
 use Rattle.fraction_laws.specs.WellFormed.{WellFormed, wellFormed-is}
-use Rattle.order_laws.specs.Accepted.{Accepted, accepted-is, coprime-step}
+use Rattle.order_laws.specs.Accepted.{Accepted, coprime-step}
+use Rattle.order_laws.specs.Floor.{acceptedAt-is}
 use Rattle.net_laws.specs.TValue.{tValue-most}
 use Rattle.page_laws.specs.Members.{getD-member}
 use Rattle.ranking_laws.specs.Met.{row-length, tValues-length}
@@ -52,4 +53,4 @@ module _ (l : Selection) (degree : LawfulDegree (l .degree)) (top : LawfulTop (l
       let m = l .degree in
       let p = r .pair .p in
       let q = r .pair .q in
-      subst (LawfulRow m (l .top)) (r .is) (row-lawful p q (wellFormed-is m p q .0 (r .well-formed)) (accepted-is m p q .0 (r .passes)))
+      subst (LawfulRow m (l .top)) (r .is) (row-lawful p q (wellFormed-is m p q .0 (r .well-formed)) (acceptedAt-is m (l .floor) p q .0 (r .passes) .judged))

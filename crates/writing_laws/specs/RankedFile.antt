@@ -1,6 +1,7 @@
--- The catalogue of ranked lists, from entries of a degree and T each. For lawful entries of ascending degrees it is of the form and holds, for each
--- entry in order, T and the ranked rows in order, and no other degree; its length is a sum over the entries. For the row counts fit (`Few`) and each
--- number fits its field (`Fields`), so the ranked lists are lawful, and a catalogue of lawful lists holds them (`Held`). Assumes nothing.
+-- The catalogue of ranked lists, from entries of a degree and T each, at any floor. For lawful entries of ascending degrees it is of the form and
+-- holds, for each entry in order, T and the ranked rows in order, and no other degree; its length is a sum over the entries. For the row counts fit
+-- (`Few`) and each number fits its field (`Fields`), so the ranked lists are lawful, and a catalogue of lawful lists holds them (`Held`).
+-- Assumes nothing.
 use mathlib.Core.Path.{_≡_, refl, ap, _∙_}
 use mathlib.Core.Bool.{true, and-eq-true-iff}
 use mathlib.Core.List.{List, [], _∷_, _++_, map, List·Memᴰ, Memᴰ·map, Memᴰ·of-map}
@@ -13,6 +14,7 @@ use Rattle.definitions.specs.declared.Selection.{Selection}
 use Rattle.definitions.specs.Number.{all}
 use Rattle.definitions.specs.Generator.{lawfulDegree}
 use Rattle.definitions.specs.Ranking.{lawfulTop, ranked}
+use Rattle.definitions.specs.Examples.{noFloor}
 use Rattle.definitions.specs.Catalogue.{offsetSize, entrySize, rowSize, firstEntry, catalogueForm, opening, lookupNumbers}
 use Rattle.definitions.specs.declared.NextRow.the-variants.{Found, End}
 use Rattle.definitions.specs.declared.Opening.the-variants.{Entries}
@@ -57,14 +59,14 @@ entries-lawful (l ∷ ls) degrees tops order =
     entries-behind l ls (omega (arith, d .low)) degrees tops order
 
 -- So are entries of which no situation applies.
-pub entering-lawful : (ls : List Selection) → NoneApplies (entering ls) → LawfulEntries 0 ls
+pub entering-lawful : (floor : ℕ) (ls : List Selection) → NoneApplies (entering floor ls) → LawfulEntries 0 ls
 unfolding entering
-entering-lawful ls (passes degrees (passes tops (passes order at-end))) =
+entering-lawful floor ls (passes degrees (passes tops (passes in-range (passes order at-end)))) =
     entries-lawful ls (not-false (lawfulDegrees ls) degrees) (not-false (lawfulTops ls) tops) (not-false (ascending ls) order)
 
 -- An entry where there is none.
 abbrev pub noEntry : Selection
-noEntry = record { degree = 0; top = 0 }
+noEntry = record { degree = 0; top = 0; floor = 0 }
 
 -- Each of such entries is lawful.
 pub record LawfulEntry (l : Selection) : Type 0 where
@@ -163,7 +165,7 @@ pub file-none : rankedFile [] ≡ 0 ∷ []
 unfolding rankedFile catalogueBytes contentsBytes
 file-none = refl
 
--- Document 01's catalogue of 41 bytes.
-pub file-printed : rankedFile (record { degree = 3; top = 4 } ∷ []) ≡ printed
+-- Document 01's catalogue of 41 bytes, which has floor 0.
+pub file-printed : rankedFile (record { degree = 3; top = 4; floor = noFloor } ∷ []) ≡ printed
 unfolding rankedFile rankedList
 file-printed = printed-bytes

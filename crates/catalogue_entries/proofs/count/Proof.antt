@@ -6,7 +6,7 @@ use Rattle.catalogue_entries.proofs.count.Statement.{statement}
 use Rattle.catalogue_entries.proofs.count.Tie as tie
 
 rounded-up : tie.Need-returns
-rounded-up c = sym (entries-length (c .args .entries .now))
+rounded-up c floor = sym (entries-length floor (c .args .entries .now))
 
 pub count-spec : {M : Type 1} → statement M
 count-spec = tie.close (tie.spec (λ c. search needs) rounded-up)

@@ -2,9 +2,9 @@
 -- Assumes nothing.
 use mathlib.Core.Path.{_≡_, refl, sym}
 use mathlib.Core.List.{List}
-use Prim.Native.Nat.{suc, _+_, _-_, _≤_}
+use Prim.Native.Nat.{suc, _+_, _-_, _<_, _≤_}
 use native.Mathlib.Omega.{arith}
-use lib.ListN.{drop}
+use lib.ListN.{length, drop}
 use borrow.Author.Needs.{needs}
 use Rattle.definitions.specs.declared.Selection.{Selection}
 use Rattle.definitions.specs.Writing.{entriesOf, ascending}
@@ -13,13 +13,20 @@ use Rattle.catalogue_entries.proofs.do_ascend.Statement.{statement}
 use Rattle.catalogue_entries.proofs.do_ascend.Tie as tie
 
 abbrev RestDecides : tie.InvT-loop
-RestDecides entries n k₀ k = (1 ≤ k) × (ascending (entriesOf entries) ≡ ascending (drop (k - 1) (entriesOf entries)))
+RestDecides floor entries n k₀ k = let l = entriesOf floor entries in (1 ≤ k) × (ascending l ≡ ascending (drop (k - 1) l))
 
 abbrev remaining : tie.MeasureT-loop
-remaining entries n k₀ k = n - k
+remaining floor entries n k₀ k = n - k
 
 abbrev listed : tie.At-loop RestDecides remaining → List Selection
-listed c = entriesOf (c .before .before .before .args .entries .now)
+listed c = let a = c .before .before .before .args in entriesOf (a .floor) (a .entries .now)
+
+-- There are so many entries at every floor.
+count-is : (c : tie.At-loop RestDecides remaining) → c .before .count .result ≡ length (listed c)
+count-is c = c .before .count .ensures (c .before .before .before .args .floor)
+
+inside : (c : tie.In-loop RestDecides remaining) → c .before .loop .k < length (listed (c .before))
+inside c = omega (arith, c .loop-test .taken, count-is (c .before))
 
 -- In a turn both entries are read, that at k first.
 abbrev both-read : tie.After-struct-known2 RestDecides remaining → tie.After-entry2 RestDecides remaining
@@ -40,7 +47,8 @@ fails c =
     let t = turn r in
     let k = t .loop .k in
     sym
-    (laws.ascending-stop (listed t) (k - 1) k (just-before t) (t .loop .inv .1) (search needs) (r .entry2 .ensures) (r .before .entry .ensures) (search needs))
+    (laws.ascending-stop (listed t) (k - 1) k (just-before t) (t .loop .inv .1) (inside (r .before .before)) (r .entry2 .ensures) (r .before .entry .ensures)
+    (search needs))
 
 passes : tie.Need-loop-again RestDecides remaining
 passes c =
@@ -49,16 +57,17 @@ passes c =
     let k = t .loop .k in
     let back : k + 1 - 1 ≡ k = omega arith in
     let on =
-    laws.ascending-on (listed t) (k - 1) k (just-before t) (t .loop .inv .1) (search needs) (r .entry2 .ensures) (r .before .entry .ensures) (search needs) in
+    laws.ascending-on (listed t) (k - 1) k (just-before t) (t .loop .inv .1) (inside (r .before .before)) (r .entry2 .ensures) (r .before .entry .ensures)
+    (search needs) in
     (search needs, rw back on)
 
 ends : tie.Need-returns-2 RestDecides remaining
 ends c =
     let t = c .before in
-    sym (laws.ascending-end (listed t) (t .loop .k - 1) (t .loop .k) (just-before t) (t .loop .inv .1) (search needs))
+    sym (laws.ascending-end (listed t) (t .loop .k - 1) (t .loop .k) (just-before t) (t .loop .inv .1) (omega (arith, c .loop-test .left, count-is t)))
 
 pub do-ascend-spec : {M : Type 1} → statement M
 do-ascend-spec =
     tie.close
-    (tie.spec RestDecides remaining (λ c κs. search needs) all-decide (λ c κs. search needs) (λ c. search needs) (λ c κs. search needs) fails
+    (tie.spec RestDecides remaining (λ c κs. search needs) all-decide (λ c κs. inside c) (λ c. search needs) (λ c κs. omega (arith, inside (c .before))) fails
     (λ c. search needs) (λ c. search needs) passes ends)

@@ -1,7 +1,7 @@
 -- `write_file` writes list after list. The invariant: what is left to write, over the buffer, is the whole file over what it was. Assumes nothing.
 use mathlib.Core.Path.{_≡_, refl, _∙_}
 use mathlib.Core.List.{List}
-use Prim.Native.Nat.{ℕ, _-_, _≤_}
+use Prim.Native.Nat.{ℕ, _-_, _<_, _≤_}
 use native.Mathlib.Omega.{arith}
 use lib.ListN.{length, set, length-set}
 use borrow.Author.Needs.{needs}
@@ -13,15 +13,27 @@ use Rattle.catalogue_file.proofs.write_file.Statement.{statement}
 use Rattle.catalogue_file.proofs.write_file.Tie as tie
 
 abbrev Underway : tie.InvT-loop
-Underway entries contents file₀ rows₀ n place₀ at₀ k₀ file rows place at k = Filing (entriesOf entries) file₀ k place at file × (length rows ≡ length rows₀)
+Underway floor entries contents file₀ rows₀ n place₀ at₀ k₀ file rows place at k =
+    Filing (entriesOf floor entries) file₀ k place at file × (length rows ≡ length rows₀)
 
 abbrev remaining : tie.MeasureT-loop
-remaining entries contents file₀ rows₀ n place₀ at₀ k₀ file rows place at k = n - k
+remaining floor entries contents file₀ rows₀ n place₀ at₀ k₀ file rows place at k = n - k
+
+-- ---- the lists that are asked for, so many at every floor
+
+abbrev begun : tie.After-count Underway remaining → tie.Start Underway remaining
+begun c = c .before .before .before .before
+
+abbrev asked : tie.After-count Underway remaining → List Selection
+asked c = let a = begun c .args in entriesOf (a .floor) (a .entries .now)
+
+count-is : (c : tie.After-count Underway remaining) → c .count .result ≡ length (asked c)
+count-is c = c .count .ensures (begun c .args .floor)
 
 -- ---- the turns: the loop, the entry that is read, the list that is written
 
 abbrev start : tie.At-loop Underway remaining → tie.Start Underway remaining
-start c = let begun = c .before in begun .before .before .before .before
+start c = begun (c .before)
 
 abbrev turn : tie.After-entry Underway remaining → tie.At-loop Underway remaining
 turn c = c .before .before
@@ -30,7 +42,10 @@ abbrev read : tie.After-write-list Underway remaining → tie.After-entry Underw
 read c = c .before .before .before
 
 abbrev listed : tie.At-loop Underway remaining → List Selection
-listed c = entriesOf (start c .args .entries .now)
+listed c = asked (c .before)
+
+inside : (c : tie.In-loop Underway remaining) → c .before .loop .k < length (listed (c .before))
+inside c = omega (arith, c .loop-test .taken, count-is (c .before .before))
 
 -- The buffer where the loop begins: the count of entries is written.
 abbrev counted : tie.At-loop Underway remaining → List ℕ
@@ -40,24 +55,22 @@ room : (c : tie.At-loop Underway remaining) → length (rankedFile (listed c)) �
 room c = laws.room-kept (listed c) (start c .pre .0) (start c .args .file .now) (c .before .count .result) (start c .pre .1 .1)
 
 count-cast : tie.Need-cast-file Underway remaining
-count-cast c = let s = c .before .before .before .before in omega (arith, c .count .ensures, laws.entries-few (entriesOf (s .args .entries .now)) (s .pre .0))
+count-cast c = omega (arith, count-is c, laws.entries-few (asked c) (begun c .pre .0))
 
 first-byte : tie.Need-slice-write-file Underway remaining
-first-byte c = let s = c .before .before .before .before in omega (arith, laws.file-some (entriesOf (s .args .entries .now)) (s .pre .0), s .pre .1 .1)
+first-byte c = let s = begun c in omega (arith, laws.file-some (asked c) (s .pre .0), s .pre .1 .1)
 
 loop-holds : tie.Need-loop-holds Underway remaining
 loop-holds c =
-    let s = c .before .before .before .before in
-    let n = c .count in
-    let ls = entriesOf (s .args .entries .now) in
-    (laws.filing-begun ls (s .pre .0) (s .args .file .now) (n .result) (s .pre .1 .1) (n .ensures) (s .pre .1 .0), refl)
+    let s = begun c in
+    (laws.filing-begun (asked c) (s .pre .0) (s .args .file .now) (c .count .result) (s .pre .1 .1) (count-is c) (s .pre .1 .0), refl)
 
 -- What the list's writer asks of the entry that is read.
 asks : (c : tie.After-entry Underway remaining) → let l = turn c .loop in laws.ListAsks (c .entry .result) (l .place) (l .at) (l .file)
 asks c =
     let t = turn c in
     let l = t .loop in
-    laws.list-asks (listed t) (start t .pre .0) (counted t) (room t) (l .k) (l .place) (l .at) (l .file) (l .inv .0) (search needs)
+    laws.list-asks (listed t) (start t .pre .0) (counted t) (room t) (l .k) (l .place) (l .at) (l .file) (l .inv .0) (inside (c .before))
     (c .entry .result) (c .entry .ensures)
 
 write-list-requires : tie.Need-write-list-requires Underway remaining
@@ -80,8 +93,8 @@ loop-again c =
     let t = turn r in
     let l = t .loop in
     let kept = c .before .before .before .before .rows2 .given in (
-      laws.filing-next (listed t) (start t .pre .0) (counted t) (room t) (l .k) (l .place) (l .at) (l .file) (l .inv .0) (search needs) (r .entry .result)
-          (r .entry .ensures) (c .entry-size .ensures) (w .write-list .ensures .0) (w .write-list .ensures .1),
+      laws.filing-next (listed t) (start t .pre .0) (counted t) (room t) (l .k) (l .place) (l .at) (l .file) (l .inv .0) (inside (r .before))
+          (r .entry .result) (r .entry .ensures) (c .entry-size .ensures) (w .write-list .ensures .0) (w .write-list .ensures .1),
       kept ∙ l .inv .1,
     )
 
@@ -96,10 +109,11 @@ returns c =
     let l = t .loop in
     let s = start t in
     laws.filing-ended (listed t) (s .pre .0) (s .args .file .now) (t .before .count .result) (s .pre .1 .1)
-    (filing-end (listed t) (s .pre .0) (counted t) (room t) (l .k) (l .place) (l .at) (l .file) (l .inv .0) (search needs))
+    (filing-end (listed t) (s .pre .0) (counted t) (room t) (l .k) (l .place) (l .at) (l .file) (l .inv .0)
+    (omega (arith, c .before .loop-test .left, count-is (t .before))))
 
 pub write-file-spec : {M : Type 1} → statement M
 write-file-spec =
     tie.close
-    (tie.spec Underway remaining (λ c. search needs) (λ c κs. search needs) count-cast first-byte loop-holds (λ c κs. search needs)
+    (tie.spec Underway remaining (λ c. search needs) (λ c κs. search needs) count-cast first-byte loop-holds (λ c κs. inside c)
     write-list-requires (λ c κs. search needs) place-fits (λ c. search needs) (λ c. search needs) loop-again file-kept returns)

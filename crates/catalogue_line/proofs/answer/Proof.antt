@@ -1,13 +1,12 @@
 -- `catalogue_line::answer` reads the numbers of the line; without any it refuses, and with some it writes. Assumes nothing.
 use mathlib.Core.Path.{refl, sym}
 use mathlib.Core.List.{List}
-use Prim.Native.Nat.{ℕ, _*_}
+use Prim.Native.Nat.{ℕ}
 use lib.ListN.{replicate}
 use lib.Seq.{length-take-le}
 use denote.Ref.{now}
 use borrow.Author.Needs.{needs}
-use Rattle.definitions.specs.Catalogue.{mostEntries}
-use Rattle.catalogue_line.specs.Read.{entries-within, entries-read, entries-some, outputs-unread}
+use Rattle.catalogue_line.specs.Read.{mostNumbers, read-within, read-first, read-some, outputs-unread}
 use Rattle.catalogue_line.proofs.answer.Statement.{statement}
 use Rattle.catalogue_line.proofs.answer.Tie as tie
 
@@ -16,7 +15,7 @@ abbrev start : tie.After-read-numbers → tie.Start
 start c = c .before .before .before .before .before
 
 abbrev zeros : List ℕ
-zeros = replicate (2 * mostEntries) 0
+zeros = replicate mostNumbers 0
 
 returns : tie.Need-returns
 returns c =
@@ -31,7 +30,7 @@ returns c =
 array-share-prefix-numbers : tie.Need-array-share-prefix-numbers
 array-share-prefix-numbers c =
     let read = c .before .before in
-    entries-within (now (start read .args .input)) zeros refl (read .read-numbers .ensures .0) (read .read-numbers .ensures .1)
+    read-within (now (start read .args .input)) zeros refl (read .read-numbers .ensures .0) (read .read-numbers .ensures .1)
 
 slice-aggregate-write : tie.Need-slice-aggregate-write
 slice-aggregate-write c = sym (length-take-le _ _ (array-share-prefix-numbers (c .before)))
@@ -41,13 +40,13 @@ write-requires c κs =
     let some = c .before .before .before in
     let read = some .before .before in
     let s = start read in
-    (entries-some (now (s .args .input)) zeros refl (read .read-numbers .ensures .0) (read .read-numbers .ensures .1) (some .if1 .left), s .pre)
+    (read-some (now (s .args .input)) zeros refl (read .read-numbers .ensures .0) (read .read-numbers .ensures .1) (some .if1 .left), s .pre)
 
 returns-2 : tie.Need-returns-2
 returns-2 c =
     let wrote = c .before .before .before .before in
     let read = wrote .before .before .before .before .before .before in
-    rw (entries-read (now (start read .args .input)) zeros refl (read .read-numbers .ensures .0) (read .read-numbers .ensures .1)) at (wrote .write .ensures)
+    rw (read-first (now (start read .args .input)) zeros refl (read .read-numbers .ensures .0) (read .read-numbers .ensures .1)) at (wrote .write .ensures)
 
 pub answer-spec : {M : Type 1} → statement M
 answer-spec =

@@ -1,14 +1,15 @@
--- `catalogue_line::write` writes the file, or the line of its refusal, by what the call answers. Assumes nothing.
+-- `catalogue_line::write` writes the file that the floor and the entries behind it ask for, or the line of its refusal, by what the call answers.
+-- Assumes nothing.
 use mathlib.Core.Path.{sym, _∙_}
 use denote.Ref.{now}
 use borrow.Author.Needs.{needs}
-use Rattle.catalogue_line.specs.Written.{outputs-file, outputs-refused}
+use Rattle.catalogue_line.specs.Written.{outputs-some, outputs-file, outputs-refused}
 use Rattle.catalogue_line.proofs.write.Statement.{statement}
 use Rattle.catalogue_line.proofs.write.Tie as tie
 
 -- What is known once the call has answered.
 abbrev start : tie.After-write → tie.Start
-start c = c .before .before .before .before .before
+start c = let asked = c .before .before .before in asked .before .before .before .before
 
 -- ---- a file
 
@@ -20,8 +21,9 @@ returns c =
     let told = c .before in
     let called = given told in
     let s = start called in
-    outputs-file (now (s .args .entries)) (now (s .args .file)) (now (s .args .text)) (s .pre .0) (s .pre .1 .0)
-    (sym (called .write .ensures .0) ∙ told .length .given .1) (called .write .ensures .1)
+    outputs-some (now (s .args .numbers)) (now (s .args .file)) (now (s .args .text)) (s .pre .0)
+    (outputs-file _ _ (now (s .args .file)) (now (s .args .text)) (s .pre .1 .0)
+    (sym (called .write .ensures .0) ∙ told .length .given .1) (called .write .ensures .1))
 
 -- ---- a refusal
 
@@ -38,11 +40,13 @@ returns-2 c =
     let told = numbered number in
     let called = refused told in
     let s = start called in
-    outputs-refused (now (s .args .entries)) (now (s .args .file)) (now (s .args .text)) (s .pre .0) (s .pre .1 .0)
+    outputs-some (now (s .args .numbers)) (now (s .args .file)) (now (s .args .text)) (s .pre .0)
+    (outputs-refused _ _ (now (s .args .file)) (now (s .args .text)) (s .pre .1 .0)
     (sym (called .write .ensures .0) ∙ told .refusal .given .1) (called .write .ensures .1)
-    (rw (number .refusal-number .ensures) at (put .refuse .ensures .0)) (rw (number .refusal-number .ensures) at (put .refuse .ensures .1))
+    (rw (number .refusal-number .ensures) at (put .refuse .ensures .0)) (rw (number .refusal-number .ensures) at (put .refuse .ensures .1)))
 
 pub write-spec : {M : Type 1} → statement M
 write-spec =
-    tie.close (tie.spec (search needs) (search needs) (search needs) (search needs) (search needs) (search needs) returns (search needs) (search needs)
-    returns-2)
+    tie.close
+    (tie.spec (search needs) (search needs) (search needs) (search needs) (search needs) (search needs) (search needs) (search needs) (search needs)
+    (search needs) returns (search needs) (search needs) returns-2)

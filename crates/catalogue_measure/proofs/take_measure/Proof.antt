@@ -16,16 +16,23 @@ use Rattle.catalogue_measure.proofs.take_measure.Statement.{statement}
 use Rattle.catalogue_measure.proofs.take_measure.Tie as tie
 
 abbrev Measured : tie.InvT-loop
-Measured entries n contents₀ bodies₀ k₀ contents bodies k = laws.Measured (entriesOf entries) k contents bodies
+Measured floor entries n contents₀ bodies₀ k₀ contents bodies k = laws.Measured (entriesOf floor entries) k contents bodies
 
 abbrev remaining : tie.MeasureT-loop
-remaining entries n contents₀ bodies₀ k₀ contents bodies k = n - k
+remaining floor entries n contents₀ bodies₀ k₀ contents bodies k = n - k
 
 abbrev start : tie.At-loop Measured remaining → tie.Start Measured remaining
 start c = c .before .before .before
 
 abbrev listed : tie.At-loop Measured remaining → List Selection
-listed c = entriesOf (start c .args .entries .now)
+listed c = let a = start c .args in entriesOf (a .floor) (a .entries .now)
+
+-- There are so many entries at every floor.
+count-is : (c : tie.At-loop Measured remaining) → c .before .count .result ≡ length (listed c)
+count-is c = c .before .count .ensures (start c .args .floor)
+
+inside : (c : tie.In-loop Measured remaining) → c .before .loop .k < length (listed (c .before))
+inside c = omega (arith, c .loop-test .taken, count-is (c .before))
 
 -- In a turn: the loop, and the sums behind it.
 abbrev turn : tie.After-entry-size Measured remaining → tie.At-loop Measured remaining
@@ -37,7 +44,7 @@ more : (c : tie.After-entry-size Measured remaining) (b : ℕ) → let l = turn 
 more c b e =
     let t = turn c in
     let l = t .loop in
-    laws.measured-more (listed t) (start t .pre) (l .k) (l .contents) (l .bodies) (l .inv) (search needs) (c .before .entry .ensures)
+    laws.measured-more (listed t) (start t .pre) (l .k) (l .contents) (l .bodies) (l .inv) (inside (c .before .before)) (c .before .entry .ensures)
     (c .entry-size .ensures) e
 
 sums-fit : (c : tie.After-entry-size Measured remaining) (b : ℕ) → let l = turn c .loop in let x = c .before .entry .result in
@@ -56,7 +63,7 @@ contents-fit c = omega (arith, sums-fit c _ refl)
 body-size-requires : tie.Need-body-size-requires Measured remaining
 body-size-requires c κs =
     let t = turn c in
-    let l = entry-at (start t .pre) (t .loop .k) (search needs) in
+    let l = entry-at (start t .pre) (t .loop .k) (inside (c .before .before)) in
     rw (c .before .entry .ensures) (record { degree = l .degree-lawful; top = l .top-lawful })
 
 bodies-fit : tie.Need-add-bodies Measured remaining
@@ -65,7 +72,7 @@ bodies-fit c = omega (arith, sums-fit (c .before) (c .body-size .result) (c .bod
 loop-again : tie.Need-loop-again Measured remaining
 loop-again c = more (c .before) (c .body-size .result) (c .body-size .ensures)
 
-length-fits : tie.Need-add-t9 Measured remaining
+length-fits : tie.Need-add-t10 Measured remaining
 length-fits c =
     let t = c .before in
     let l = t .loop in
@@ -75,10 +82,10 @@ returns : tie.Need-returns Measured remaining
 returns c =
     let t = c .before in
     let l = t .loop in
-    laws.measured-end (listed t) (start t .pre) (l .k) (l .contents) (l .bodies) (l .inv) (search needs)
+    laws.measured-end (listed t) (start t .pre) (l .k) (l .contents) (l .bodies) (l .inv) (omega (arith, c .loop-test .left, count-is t))
 
 pub take-measure-spec : {M : Type 1} → statement M
 take-measure-spec =
     tie.close
-    (tie.spec Measured remaining (λ c κs. search needs) loop-holds (λ c κs. search needs) (λ c κs. search needs) contents-fit body-size-requires bodies-fit
+    (tie.spec Measured remaining (λ c κs. search needs) loop-holds (λ c κs. inside c) (λ c κs. search needs) contents-fit body-size-requires bodies-fit
     (λ c. search needs) (λ c. search needs) loop-again length-fits returns)

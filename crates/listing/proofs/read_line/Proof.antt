@@ -18,4 +18,4 @@ returns-2 c =
     asked-some (now (start read .args .input)) (read .read-numbers .ensures .0) (read .read-numbers .ensures .1) (c .if1 .left)
 
 pub read-line-spec : {M : Type 1} → statement M
-read-line-spec = tie.close (tie.spec (search needs) (search needs) returns (search needs) (search needs) (search needs) returns-2)
+read-line-spec = tie.close (tie.spec (search needs) (search needs) returns (search needs) (search needs) (search needs) (search needs) returns-2)

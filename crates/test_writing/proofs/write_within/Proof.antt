@@ -14,5 +14,5 @@ slice-aggregate-write c = sym (length-take-le _ _ (c .before .before .if1 .taken
 
 pub write-within-spec : {M : Type 1} → statement M
 write-within-spec =
-    tie.close (tie.spec (search needs) cast-room (search needs) (search needs) (search needs) (search needs) slice-aggregate-write (search needs)
+    tie.close (tie.spec (search needs) cast-room (search needs) (search needs) (search needs) (search needs) (search needs) slice-aggregate-write (search needs)
     (search needs) (search needs))

@@ -2,7 +2,7 @@
 use native.Mathlib.Omega.{arith}
 use denote.Ref.{now}
 use borrow.Author.Needs.{needs}
-use Rattle.definitions.specs.Writing.{lineEntries}
+use Rattle.definitions.specs.Writing.{fileNumbers}
 use Rattle.catalogue_line.specs.Room.{output-fits, errors-fit}
 use Rattle.write_catalogue.proofs.write_through.Statement.{statement}
 use Rattle.write_catalogue.proofs.write_through.Tie as tie
@@ -18,12 +18,12 @@ write-front-requires : tie.Need-write-front-requires
 write-front-requires c κs =
     let a = answered c in
     let s = start a in
-    omega (arith, a .answer .ensures .0, output-fits (lineEntries (now (s .args .input))), a .answer .kept .1 .0, s .pre)
+    omega (arith, a .answer .ensures .0, output-fits (fileNumbers (now (s .args .input))), a .answer .kept .1 .0, s .pre)
 
 write-front-requires-2 : tie.Need-write-front-requires-2
 write-front-requires-2 c κs =
     let a = answered (c .before .before) in
-    omega (arith, a .answer .ensures .1 .0, errors-fit (lineEntries (now (start a .args .input))), a .answer .kept .1 .1 .0)
+    omega (arith, a .answer .ensures .1 .0, errors-fit (fileNumbers (now (start a .args .input))), a .answer .kept .1 .1 .0)
 
 pub write-through-spec : {M : Type 1} → statement M
 write-through-spec =
