@@ -68,7 +68,8 @@ module _ (m floor p q first : ℕ) (s : List ℕ) where
 
   -- Words that are given: no situation applies, and they stand over the front of the slice.
   pub points-given : {n : ℕ} → pointsAnswer m floor p q first s ≡ Written n
-      → NoneApplies (pointing m floor p q first) × (wordCount m first s ≡ n) × (pointsSlice m floor p q first s ≡ over 0 (words p q first (wordCount m first s)) s)
+      → NoneApplies (pointing m floor p q first) × (wordCount m first s ≡ n)
+      × (pointsSlice m floor p q first s ≡ over 0 (words p q first (wordCount m first s)) s)
   points-given e =
       let g = given-writes points-answered (λ k d. let z : _≡_ {A = ℕ} 0 1 = cc in omega arith) e in
       let f = g .1 in
@@ -96,7 +97,8 @@ module _ (floor : ℕ) (entries s : List ℕ) where
   file-keeps = refused-keeps file-answered (λ e. let z : _≡_ {A = ℕ} 0 1 = cc in omega arith)
 
   -- A file that is given: no situation applies, its length is that of the file, and the file stands over the front of the buffer.
-  pub file-given : {n : ℕ} → fileAnswer floor entries s ≡ File n → NoneApplies (writing floor entries s) × (length file ≡ n) × (fileBuffer floor entries s ≡ over 0 file s)
+  pub file-given : {n : ℕ} → fileAnswer floor entries s ≡ File n
+      → NoneApplies (writing floor entries s) × (length file ≡ n) × (fileBuffer floor entries s ≡ over 0 file s)
   file-given e =
       let g = given-writes file-answered (λ k d. let z : _≡_ {A = ℕ} 0 1 = cc in omega arith) e in
       let f = g .1 in

@@ -1,7 +1,8 @@
 -- Judging, the quotient test, a single t-value, pages and points: what each call answers and what each lent slice holds afterwards, for every input.
 -- Assumes nothing.
 use Rattle.definitions.specs.Base.{Bool, not, List, [], _∷_, _++_, ℕ, _-_, _/_, min, ltb, length, Refusal, WrongDegree, WrongDimension}
-use Rattle.definitions.specs.Base.{IllFormedPair, NotPrimitive, QuotientNotLinear, StepNotCoprime, StepBelowFloor, WrongFloor, ShortSlice, BeyondPeriod, Selection}
+use Rattle.definitions.specs.Base.{IllFormedPair, NotPrimitive, QuotientNotLinear, StepNotCoprime, StepBelowFloor, WrongFloor, ShortSlice, BeyondPeriod}
+use Rattle.definitions.specs.Base.{Selection}
 use Rattle.definitions.specs.Base.{Position, Start, After, PageRequest, Judgement, Accepted, Rejected, Uniformity, Value, Undefined, PageAnswer}
 use Rattle.definitions.specs.Base.{Page, NoPage, PointsAnswer, Written, NotWritten, QuotientTest, Degrees, Untested}
 use Rattle.definitions.specs.Number.{join, over}

@@ -87,7 +87,8 @@ pageOf top floor at = pageRequest (record { degree = 3; top = top; floor = floor
 -- Where 12 or 11 meets another number, the order of document 02 decides: in judging, for a page, in points and in writing.
 pub floor-orders : map (λ (l : List Situation). unless l refusalNumber 0)
     (judging 17 33 16 1 ∷ judging 3 33 16 1 ∷ judging 4 32 19 12 ∷ paging (pageOf 9 33 Start) [] ∷ paging (pageOf 4 33 (After 16 1)) []
-    ∷ paging (pageOf 4 6 (After 11 7)) [] ∷ pointing 3 6 11 7 7 ∷ entering 33 (entriesOf 33 (3 ∷ 9 ∷ [])) ∷ entering 33 (entriesOf 33 (5 ∷ 4 ∷ 3 ∷ 4 ∷ [])) ∷ [])
+    ∷ paging (pageOf 4 6 (After 11 7)) [] ∷ pointing 3 6 11 7 7
+    ∷ entering 33 (entriesOf 33 (3 ∷ 9 ∷ [])) ∷ entering 33 (entriesOf 33 (5 ∷ 4 ∷ 3 ∷ 4 ∷ [])) ∷ [])
     ≡ 1 ∷ 12 ∷ 6 ∷ 2 ∷ 12 ∷ 11 ∷ 11 ∷ 2 ∷ 12 ∷ []
 unfolding calls entering entriesOf lawfulDegrees lawfulTops ascending
 floor-orders = refl

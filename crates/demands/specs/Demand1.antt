@@ -94,13 +94,9 @@ pub other-last : (b : Bool) (k : Refusal) → (OfTable (refusalNumber k) → ⊥
 other-last b k h (here e) = h
 other-last b k h (later e d) = absurd (decides-none d)
 
-pub seven-other : OfTable 7 → ⊥
-seven-other (inl h) = omega arith
-seven-other (inr e) = omega arith
-
-pub eight-other : OfTable 8 → ⊥
-eight-other (inl h) = omega arith
-eight-other (inr e) = omega arith
+pub between-other : (n : ℕ) → 6 < n → n < 11 → OfTable n → ⊥
+between-other n l h (inl k) = omega arith
+between-other n l h (inr e) = omega arith
 
 -- ---- judging
 
@@ -214,7 +210,7 @@ module _ (l : Selection) (s : List ℕ) (p q : ℕ) where
       ∷ situation (not (lawfulFloor (l .floor))) WrongFloor ∷ [])
       (situation (ltb (length s) (rowWidth l)) ShortSlice ∷ []) degree (paging-exact (pageRequest l (After p q)) s) refl
       (passes (ap not (lawfulDegree-is (l .degree) .1 degree)) (passes (ap not (lawfulTop-is (l .top) .1 top)) (passes (ap not low) at-end)))
-      (λ r d. other-last _ ShortSlice seven-other d)
+      (λ r d. other-last _ ShortSlice (between-other 7 (omega arith) (omega arith)) d)
 
 -- ---- points
 
@@ -239,7 +235,7 @@ module _ (m floor p q i : ℕ) where
     pointing-table lawful low =
         by-table m floor p q (situation (not (lawfulDegree m)) WrongDegree ∷ situation (not (lawfulFloor floor)) WrongFloor ∷ [])
         (situation (ltb (period m - 1) i) BeyondPeriod ∷ []) lawful pointing-exact refl
-        (passes (ap not (lawfulDegree-is m .1 lawful)) (passes (ap not low) at-end)) (λ r d. other-last _ BeyondPeriod eight-other d)
+        (passes (ap not (lawfulDegree-is m .1 lawful)) (passes (ap not low) at-end)) (λ r d. other-last _ BeyondPeriod (between-other 8 (omega arith) (omega arith)) d)
 
     pub pointing-keeps : (n : Refusal) → pointsAnswer m floor p q i s ≡ NotWritten n → pointsSlice m floor p q i s ≡ s
     pointing-keeps n = points-keep m floor p q i s

@@ -1,6 +1,6 @@
 -- Demand 2, at every floor. A pair is accepted, with the step σ, exactly when p is primitive, every partial quotient of q/p has degree one, the step is
--- coprime to 2^m - 1, and it is at least the floor; the t-value is the smallest t of the net definition; the words handed out are the recurrence's full period, and with the origin
--- they are the point set in every dimension. From the laws of orders, of nets and of blocks. Assumes nothing.
+-- coprime to 2^m - 1, and it is at least the floor; the t-value is the smallest t of the net definition; the words handed out are the recurrence's full
+-- period, and with the origin they are the point set in every dimension. From the laws of orders, of nets and of blocks. Assumes nothing.
 use mathlib.Core.Path.{_≡_, ap, _∙_, subst}
 use mathlib.Core.Logic.{_↔_}
 use mathlib.Core.Bool.{Bool, true, not}

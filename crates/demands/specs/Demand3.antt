@@ -1,7 +1,7 @@
--- Demand 3, at every lawful floor. For one degree, top dimension and floor: the first page, then the page after the last row received, until nothing follows, each call with
--- a slice of its own that holds at least one row. No call is refused; the answers that say that more follows are at most as many as there are
--- rows, so the walk ends; and then its pages joined are the whole ranked list, which has each pair accepted at the floor, among all pairs, exactly once, in the one
--- order. By what a walk has come to, call by call. Assumes nothing.
+-- Demand 3, at every lawful floor. For one degree, top dimension and floor: the first page, then the page after the last row received, until nothing
+-- follows, each call with a slice of its own that holds at least one row. No call is refused; the answers that say that more follows are at most as
+-- many as there are rows, so the walk ends; and then its pages joined are the whole ranked list, which has each pair accepted at the floor, among all
+-- pairs, exactly once, in the one order. By what a walk has come to, call by call. Assumes nothing.
 use mathlib.Core.Path.{_≡_, refl}
 use mathlib.Core.Logic.{_⊎_, inl, inr}
 use mathlib.Core.Bool.{Bool, true, false}

@@ -11,8 +11,7 @@ use lib.ListN.{length}
 use borrow.Author.Tests.{le-leb}
 use Rattle.definitions.specs.Number.{all, join, keep, over}
 use Rattle.definitions.specs.Answers.{Situation, situation, unless, judgementValues, pageValues, pointsValues}
-use Rattle.definitions.specs.Generator.{Pair, largestFloor, lawfulDegree, lawfulFloor, wellFormed, primitive, linearQuotients, quotientDegree, coprimeStep}
-use Rattle.definitions.specs.Generator.{step, period, accepted}
+use Rattle.definitions.specs.Generator.{Pair, largestFloor, lawfulDegree, lawfulFloor, quotientDegree, step, period, accepted}
 use Rattle.definitions.specs.Points.{words}
 use Rattle.definitions.specs.Pages.{sort, page, more}
 use Rattle.definitions.specs.Ranking.{lawfulTop, rowWidth, row, rowKey, allPairs, ranked, cutOf}
@@ -21,8 +20,7 @@ use Rattle.definitions.specs.Calls.{pageSlice, pointing, wordCount, pointsAnswe
 use Rattle.definitions.specs.Writing.{Listed, catalogueBytes, entriesOf, rankedList, rankedFile, lawfulDegrees, lawfulTops, ascending, entering, writing}
 use Rattle.definitions.specs.Writing.{fileAnswer, fileBuffer}
 use Rattle.definitions.specs.declared.Refusal.{Refusal}
-use Rattle.definitions.specs.declared.Refusal.the-variants.{WrongDegree, WrongDimension, IllFormedPair, NotPrimitive, QuotientNotLinear, StepNotCoprime}
-use Rattle.definitions.specs.declared.Refusal.the-variants.{ShortSlice, BeyondPeriod, NotAscending, FileTooLong}
+use Rattle.definitions.specs.declared.Refusal.the-variants.{WrongDegree, WrongDimension, ShortSlice, BeyondPeriod, NotAscending, FileTooLong}
 use Rattle.definitions.specs.declared.Selection.{Selection}
 use Rattle.definitions.specs.declared.Position.{Position}
 use Rattle.definitions.specs.declared.Position.the-variants.{Start, After}
@@ -33,18 +31,14 @@ use Rattle.definitions.specs.declared.FileAnswer.the-variants.{File, NoFile}
 use Rattle.order_laws.specs.Floor.{small-floor-reached}
 use Rattle.ranking_laws.specs.Floors.{atFloor, longStep, floor-sublist, small-floor-list}
 use Rattle.demands.specs.Demand1.{LowestGiven, numberOf, exact, lowest}
+use Rattle.demands.specs.Quotients.{baseTests}
 use Rattle.demands.specs.Demand3.{Received, Ended, DefinedPage, definition-reads-list}
 
 -- ---- without a floor
 
--- The situations of a pair: 3 to 6.
+-- The situations of a pair: 3 to 6, 5 with its K.
 abbrev pub basePair : ℕ → ℕ → ℕ → List Situation
-basePair m p q =
-    situation (not (wellFormed m p q)) IllFormedPair
-    ∷ situation (not (primitive m p)) NotPrimitive
-    ∷ situation (not (linearQuotients p q)) (QuotientNotLinear (quotientDegree p q))
-    ∷ situation (not (coprimeStep m p q)) StepNotCoprime
-    ∷ []
+basePair m p q = baseTests (quotientDegree p q) m p q
 
 -- Judging: 1, 3 to 6.
 abbrev pub baseJudging : ℕ → ℕ → ℕ → List Situation

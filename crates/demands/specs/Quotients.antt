@@ -45,7 +45,7 @@ use Rattle.demands.specs.Situations.{given}
 use Rattle.demands.specs.PairTable.{Primitive, PairRefused, pair-not-well-formed, p-not-primitive, some-quotient-not-linear, step-not-coprime}
 use Rattle.demands.specs.PairTable.{step-below-floor, OfTable}
 use Rattle.demands.specs.PairTable.{no-common-factor, some-quotient}
-use Rattle.demands.specs.Demand1.{numberOf, other-last, seven-other, eight-other}
+use Rattle.demands.specs.Demand1.{numberOf, other-last, between-other}
 
 -- ---- what the test answers
 
@@ -132,15 +132,18 @@ module _ (m p q : ℕ) where
 
 -- ---- when 5 is given
 
--- The tests of a pair in their order, as the documents have them, with some number carried by 5.
-abbrev pub pairTests : ℕ → ℕ → ℕ → ℕ → ℕ → List Situation
-pairTests k m floor p q =
+-- The tests of a pair in their order, as document 01 has them, 3 to 6, with some number carried by 5;
+abbrev pub baseTests : ℕ → ℕ → ℕ → ℕ → List Situation
+baseTests k m p q =
     situation (not (wellFormed m p q)) IllFormedPair
     ∷ situation (not (primitive m p)) NotPrimitive
     ∷ situation (not (linearQuotients p q)) (QuotientNotLinear k)
     ∷ situation (not (coprimeStep m p q)) StepNotCoprime
-    ∷ situation (not (reachesFloor m floor p q)) StepBelowFloor
     ∷ []
+
+-- and with document 02's 11 behind them.
+abbrev pub pairTests : ℕ → ℕ → ℕ → ℕ → ℕ → List Situation
+pairTests k m floor p q = baseTests k m p q ++ situation (not (reachesFloor m floor p q)) StepBelowFloor ∷ []
 
 -- The tests before a pair's: of the degree and the floor.
 abbrev pub firstTests : ℕ → ℕ → List Situation
@@ -286,7 +289,7 @@ module _ (m floor p q : ℕ) where
     pointing-five (later a (here b)) e = absurd (omega arith)
     pointing-five (later a (later b d)) e =
         five-decides m floor p q (lawfulDegree-is m .0 (not-false _ a)) (situation (ltb (period m - 1) i) BeyondPeriod ∷ [])
-        (λ r x. other-last _ BeyondPeriod eight-other x) d e
+        (λ r x. other-last _ BeyondPeriod (between-other 8 (omega arith) (omega arith)) x) d e
 
     pub pointing-carries : (s : List ℕ) → let values = pointsValues (pointsAnswer m floor p q i s) in CarriesK m p q (numberOf values) (carriedOf values)
     unfolding pointsAnswer
@@ -301,7 +304,7 @@ module _ (l : Selection) (p q : ℕ) (s : List ℕ) where
   paging-five (later a (later b (here c))) e = absurd (omega arith)
   paging-five (later a (later b (later c d))) e =
       five-decides (l .degree) (l .floor) p q (lawfulDegree-is (l .degree) .0 (not-false _ a)) (situation (ltb (length s) (rowWidth l)) ShortSlice ∷ [])
-      (λ r x. other-last _ ShortSlice seven-other x) d e
+      (λ r x. other-last _ ShortSlice (between-other 7 (omega arith) (omega arith)) x) d e
 
   pub paging-carries : let values = pageValues (pageAnswer (pageRequest l (After p q)) s) in CarriesK (l .degree) p q (numberOf values) (carriedOf values)
   unfolding pageAnswer

@@ -74,7 +74,7 @@ pub fn check_pair(m: u32, floor: u32, p: u32, q: u32) -> Verdict
     }
 }
 
-// The step of a pair, or the same refusal: here the step is looked for, and itself held to 2^m - 1.
+// The step of a pair, or the same refusal: here the step is looked for, and itself held to 2^m - 1; the floor is tested as above.
 pub fn judge_pair(m: u32, floor: u32, p: u32, q: u32) -> Judgement
     requires { ⌜ LawfulDegree m ⌝ }
     ensures { λ r. ⌜ r ≡ pairJudgement m floor p q ⌝ }

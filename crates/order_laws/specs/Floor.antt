@@ -24,10 +24,6 @@ module _ (m floor p q : ℕ) where
 
   -- ---- accepted at a floor
 
-  pub acceptedAt-def : acceptedAt m floor p q ≡ (accepted m p q && reachesFloor m floor p q)
-  unfolding acceptedAt
-  acceptedAt-def = refl
-
   pub acceptedAt-both : (acceptedAt m floor p q ≡ true) ↔ ((accepted m p q ≡ true) × (reachesFloor m floor p q ≡ true))
   unfolding acceptedAt
   acceptedAt-both = and-eq-true-iff (accepted m p q) (reachesFloor m floor p q)

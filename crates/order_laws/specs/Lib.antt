@@ -1,4 +1,5 @@
--- Laws of orders: the smallest exponent that gives 1, the table of prime divisors, primitive polynomials, the full cycle, the step, the order of q, the floor, words.
+-- Laws of orders: the smallest exponent that gives 1, the table of prime divisors, primitive polynomials, the full cycle, the step, the order of q, the floor,
+-- words.
 pub mod Exponents
 pub mod Table
 pub mod Powers

@@ -66,12 +66,14 @@ module _ (l : Selection) where
   -- THE LIST OF A FLOOR IS A SUBLIST OF THE LIST OF FLOOR 0: ITS ROWS WITH A STEP OF AT LEAST THE FLOOR.
   pub floor-sublist : ranked l ≡ keep (longStep (l .floor)) (ranked (atFloor 0 l))
   floor-sublist =
-      same-members rowKey start start (ranked l) longer (ranked-ascends l) (keep-ascends rowKey (longStep (l .floor)) start whole (ranked-ascends (atFloor 0 l)))
+      same-members rowKey start start (ranked l) longer (ranked-ascends l)
+      (keep-ascends rowKey (longStep (l .floor)) start whole (ranked-ascends (atFloor 0 l)))
       in-longer of-longer
 
   -- FLOOR 0 IS THE MEANING OF DOCUMENT 01, AND SO IS FLOOR 1: the list has every accepted pair.
   pub small-floor-list : (floor : ℕ) → floor ≤ 1
-      → ranked (atFloor floor l) ≡ sort rowKey (map (λ (s : Pair). row l (s .p) (s .q)) (keep (λ (s : Pair). accepted (l .degree) (s .p) (s .q)) (allPairs (l .degree))))
+      → ranked (atFloor floor l)
+      ≡ sort rowKey (map (λ (s : Pair). row l (s .p) (s .q)) (keep (λ (s : Pair). accepted (l .degree) (s .p) (s .q)) (allPairs (l .degree))))
   unfolding ranked listedPairs row
   small-floor-list floor h =
       ap (λ (test : Pair → Bool). sort rowKey (map (λ (s : Pair). row l (s .p) (s .q)) (keep test (allPairs (l .degree)))))

@@ -44,7 +44,8 @@ check-pair-requires c κs = covered (of-degree c)
 pair-refused : tie.Need-returns-4
 pair-refused c =
     let checked = c .before .before .before in
-    answered-pair _ _ _ _ _ _ (lawful (of-degree (checked .before))) (lawful-floor (checked .before)) (sym (checked .check-pair .ensures) ∙ c .before .refusal .given .1)
+    answered-pair _ _ _ _ _ _ (lawful (of-degree (checked .before))) (lawful-floor (checked .before))
+    (sym (checked .check-pair .ensures) ∙ c .before .refusal .given .1)
 
 -- ---- of a pair that passes
 abbrev at-floor : tie.After-enum-told → tie.Else2
@@ -92,5 +93,6 @@ written c =
 pub points-spec : {M : Type 1} → statement M
 points-spec =
     tie.close
-    (tie.spec (λ c κs. search needs) degree-refused (λ c κs. search needs) floor-refused check-pair-requires (λ c. search needs) (λ c. search needs) leading-term-requires last-exists
+    (tie.spec (λ c κs. search needs) degree-refused (λ c κs. search needs) floor-refused check-pair-requires (λ c. search needs)
+    (λ c. search needs) leading-term-requires last-exists
     beyond (λ c. search needs) (λ c. search needs) (λ c κs. search needs) write-requires pair-refused (λ c. search needs) written)

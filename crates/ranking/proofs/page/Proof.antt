@@ -112,5 +112,6 @@ filled c =
 pub page-spec : {M : Type 1} → statement M
 page-spec =
     tie.close
-    (tie.spec (λ c κs. search needs) wrong-degree (λ c κs. search needs) wrong-top (λ c κs. search needs) wrong-floor degree-asked (λ c. search needs) (λ c. search needs)
+    (tie.spec (λ c κs. search needs) wrong-degree (λ c κs. search needs) wrong-top (λ c κs. search needs) wrong-floor degree-asked
+    (λ c. search needs) (λ c. search needs)
     (λ c κs. search needs) short-slice fill-asked wrong-position (λ c. search needs) filled)

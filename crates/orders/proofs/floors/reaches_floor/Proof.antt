@@ -49,4 +49,5 @@ floor-reached c = sym (reachesFloor-is _ _ _ _ .1 (omega (arith, c .before .loop
 pub reaches-floor-spec : {M : Type 1} → statement M
 reaches-floor-spec =
     tie.close
-    (tie.spec Inv-loop μ-loop (λ c κs. search needs) positive-degree loop-holds found-below times-x-requires (λ c. search needs) (λ c. search needs) loop-again floor-reached)
+    (tie.spec Inv-loop μ-loop (λ c κs. search needs) positive-degree loop-holds found-below times-x-requires (λ c. search needs)
+    (λ c. search needs) loop-again floor-reached)
