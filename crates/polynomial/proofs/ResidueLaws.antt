@@ -1,20 +1,32 @@
--- What the functions on residues rest on: the double of a residue, one digit of a product's left factor and one digit of an exponent.
+-- What the functions on residues rest on: the double of a residue, one coefficient of a product's multiplier and one digit of an exponent.
 -- Each is a law of remainders of products, over plain numbers. Assumes nothing.
-use mathlib.Core.Path.{_≡_, sym, ap, _∙_}
-use Prim.Native.Nat.{ℕ, _+_, _-_, _*_, _/_, _%_, _^_, _≤_, _<_}
-use native.Mathlib.Nat.{mul-comm, add-zero, div-one, div-eq-of-lt}
+use mathlib.Core.Path.{_≡_, refl, sym, ap, _∙_}
+use Prim.Native.Nat.{ℕ, zero, suc, _+_, _-_, _*_, _/_, _%_, _^_, _≤_, _<_}
+use native.Mathlib.Nat.{mul-comm, zero-mul, one-mul, add-zero, eq-of-mul-eq-mul-right, div-one, div-eq-of-lt}
 use native.Mathlib.Omega.{arith}
-use lib.Pow.{shr-shr}
+use lib.Pow.{pow-pos, shr-shr}
 use lib.Bits.{bitAnd, bitXor}
 use lib.Count.{leadingZeros, leading-length}
 use Rattle.definitions.specs.Polynomial.{_⊕_, degree, prod, power, rem}
-use Rattle.polynomial_laws.specs.Digits.{lowest, digit-mul-le}
-use Rattle.polynomial_laws.specs.Sum.{⊕-def, ⊕-zero, ⊕-assoc, ⊕-comm}
-use Rattle.polynomial_laws.specs.Product.{zero-prod, prod-half, two-prod, prod-double, prod-comm}
-use Rattle.polynomial_laws.specs.Division.{rem-⊕, rem-zero, rem-once, rem-prod-left, rem-prod-right}
+use Rattle.polynomial_laws.specs.Digits.{Digit, off, on, digit-mul-le}
+use Rattle.polynomial_laws.specs.Sum.{⊕-def}
+use Rattle.polynomial_laws.specs.Degree.{degree-is}
+use Rattle.polynomial_laws.specs.Product.{zero-prod, prod-half, two-prod, prod-comm}
+use Rattle.polynomial_laws.specs.Division.{rem-⊕, rem-zero, rem-once, rem-double, rem-prod-left}
 use Rattle.polynomial_laws.specs.Power.{power-zero, power-one, power-add, power-of-x, rem-one, rem-power-sum}
-use Rattle.polynomial.specs.Digits.{below-mask, above-mask}
+use Rattle.polynomial.specs.Digits.{mask, below-mask, above-mask}
 use Rattle.polynomial.specs.Modulus.{Modulus, modulus-positive, modulus-one, residue-lt, residue-small}
+
+coefficient-clear : (k a : ℕ) → bitAnd a (2 ^ k) ≡ 0 → a / 2 ^ k % 2 ≡ 0
+coefficient-clear k a none = eq-of-mul-eq-mul-right (2 ^ k) (pow-pos k) (a / 2 ^ k % 2) 0 (sym (mask k a) ∙ none ∙ sym (zero-mul (2 ^ k)))
+
+coefficient-set : (k a : ℕ) → (bitAnd a (2 ^ k) ≡ 0 → ⊥) → a / 2 ^ k % 2 ≡ 1
+coefficient-set k a some =
+    let not-zero : a / 2 ^ k % 2 ≡ 0 → ⊥ = λ zero. some (mask k a ∙ rw (zero, zero-mul)) in
+    omega arith
+
+shifted-half : (a i j : ℕ) → i + 1 ≡ j → a / 2 ^ i / 2 ≡ a / 2 ^ j
+shifted-half a i j next = shr-shr a i 1 ∙ ap (λ n. a / 2 ^ n) next
 
 module _ {p lead : ℕ} (h : Modulus p lead) where
   -- ---- x times a residue, by its highest digit
@@ -31,17 +43,60 @@ module _ {p lead : ℕ} (h : Modulus p lead) where
         rw (← ⊕-def (y * 2) p, mul-comm 2 y) (rem-once p (modulus-positive h) (y * 2) (record { least = l; most = omega (arith, h .leading) })) in
         (sym e, rw (← e) (residue-lt h (2 * y)))
 
-  -- ---- a product, one digit of a at a time from the lowest: what is added so far, and what is left
-  pub product-more : (a b s t : ℕ) → b < lead → t ≡ rem (2 * b) p → bitXor s (a % 2 * b) ⊕ rem (prod (a / 2) t) p ≡ s ⊕ rem (prod a b) p
-  product-more a b s t l e =
-      let pos = modulus-positive h in
-      let low : rem (a % 2 * b) p ≡ a % 2 * b = residue-small h (a % 2 * b) (omega (arith, digit-mul-le (lowest a) b)) in
-      rw (← ⊕-def, e, rem-prod-right p pos (a / 2) (2 * b), prod-double, prod-half a b, rem-⊕ p pos, low, ⊕-assoc, ⊕-comm (a % 2 * b))
+-- A product of a and b modulo p on the way, with `left` coefficients of a to come, the next of them that of x^(left - 1), which is `term` (0 where none is
+-- to come): the polynomial that the coefficients before them write, times b.
+pub record ProductAt (p lead a b term r : ℕ) : Type 0 where
+  pub left : ℕ
+  pub next : term ≡ 2 ^ left / 2
+  pub residue : r < lead
+  pub reached : r ≡ rem (prod (a / 2 ^ left) b) p
 
-  pub product-done : (a b s r : ℕ) → a ≡ 0 → s ⊕ rem (prod a b) p ≡ rem r p → (s ≡ rem r p) × (s < lead)
-  product-done a b s r none whole =
-      let e : s ≡ rem r p = rw (none, zero-prod, rem-zero, ⊕-zero) at whole in
-      (e, rw e (residue-lt h r))
+module _ {p lead : ℕ} (h : Modulus p lead) where
+  pub product-zero : (b : ℕ) → (0 ≡ rem (prod 0 b) p) × (0 < lead)
+  product-zero b = (sym (rw (zero-prod, rem-zero)), omega (arith, modulus-one h))
+
+  pub product-start : (a b : ℕ) → 0 < a → ProductAt p lead a b (2 ^ degree a) 0
+  product-start a b pos =
+      let below : a < 2 ^ suc (degree a) = omega (arith, degree-is a pos .most) in
+      record {
+        left = suc (degree a);
+        next = omega arith;
+        residue = product-zero b .1;
+        reached = rw (div-eq-of-lt below) (product-zero b .0);
+      }
+
+  -- one coefficient more: x times what there is, and b besides where the coefficient is 1
+  coefficient-added : (a b k r s c : ℕ) → b < lead → r ≡ rem (prod (a / 2 ^ suc k) b) p → s ≡ rem (2 * r) p → Digit c → a / 2 ^ k % 2 ≡ c
+      → s ⊕ c * b ≡ rem (prod (a / 2 ^ k) b) p
+  coefficient-added a b k r s c small before double d low =
+      let pos = modulus-positive h in
+      let summand : rem (c * b) p ≡ c * b = residue-small h (c * b) (omega (arith, digit-mul-le d b)) in
+      rw (double, before, prod-half (a / 2 ^ k) b, shifted-half a k (suc k) (omega arith), low, rem-⊕ p pos, summand, ← rem-double p pos)
+
+  module _ {a b term r s : ℕ} (at : ProductAt p lead a b term r) (more : term ≡ 0 → ⊥) (small : b < lead) (double : s ≡ rem (2 * r) p) where
+    product-more : {c t : ℕ} → Digit c → c * b ≡ t → ((k : ℕ) → term ≡ 2 ^ k → a / 2 ^ k % 2 ≡ c) → ProductAt p lead a b (term / 2) (bitXor s t)
+    product-more {c} {t} d summand low = go (at .left) (at .next) (at .reached)
+      where
+        go : (n : ℕ) → term ≡ 2 ^ n / 2 → r ≡ rem (prod (a / 2 ^ n) b) p → ProductAt p lead a b (term / 2) (bitXor s t)
+        go zero next before = absurd (more next)
+        go (suc k) next before =
+            let power : term ≡ 2 ^ k = omega arith in
+            let reached : bitXor s t ≡ rem (prod (a / 2 ^ k) b) p =
+            rw (← ⊕-def s t, ← summand) (coefficient-added a b k r s c small before double d (low k power)) in
+            record { left = k; next = rw power; residue = rw reached (residue-lt h _); reached = reached }
+
+    pub product-clear : bitAnd a term ≡ 0 → ProductAt p lead a b (term / 2) (bitXor s 0)
+    product-clear none = product-more off (zero-mul b) (λ k power. coefficient-clear k a (rw power at none))
+
+    pub product-set : (bitAnd a term ≡ 0 → ⊥) → ProductAt p lead a b (term / 2) (bitXor s b)
+    product-set some = product-more on (one-mul b) (λ k power. coefficient-set k a (rw power at some))
+
+  pub product-end : {a b term r : ℕ} → ProductAt p lead a b term r → term ≡ 0 → (r ≡ rem (prod a b) p) × (r < lead)
+  product-end at none = (at .reached ∙ rw (last (at .left) (sym (at .next) ∙ none), div-one), at .residue)
+    where
+      last : (n : ℕ) → 2 ^ n / 2 ≡ 0 → n ≡ 0
+      last zero e = refl
+      last (suc n) e = absurd (omega (arith, pow-pos n))
 
 -- A power of q modulo p on the way, with i digits of e to come: q to the number that the digits before them write.
 pub record PowerAt (p lead q e i r : ℕ) : Type 0 where
@@ -64,8 +119,7 @@ module _ {p lead : ℕ} (h : Modulus p lead) where
   module _ {q e i r s : ℕ} (at : PowerAt p lead q e i r) (more : 0 < i) (square : (s ≡ rem (prod r r) p) × (s < lead)) where
     doubled : (c : ℕ) → e / 2 ^ (i - 1) % 2 ≡ c → e / 2 ^ i + e / 2 ^ i + c ≡ e / 2 ^ (i - 1)
     doubled c low =
-        let half : e / 2 ^ (i - 1) / 2 ≡ e / 2 ^ i = shr-shr e (i - 1) 1 ∙ ap (λ n. e / 2 ^ n) (omega arith) in
-        omega arith
+        omega (arith, shifted-half e (i - 1) i (omega arith))
 
     squared : s ≡ rem (power q (e / 2 ^ i + e / 2 ^ i)) p
     squared = square .0 ∙ rw (at .reached) (sym (rem-power-sum p (h .large) q (e / 2 ^ i) (e / 2 ^ i)))

@@ -16,7 +16,7 @@ leading-degree a pos fits =
     omega (arith, degree-unique a j (record { least = least; most = omega arith }))
 
 -- ---- the digit at x^m, by a mask
-mask : (m a : ℕ) → bitAnd a (2 ^ m) ≡ a / 2 ^ m % 2 * 2 ^ m
+pub mask : (m a : ℕ) → bitAnd a (2 ^ m) ≡ a / 2 ^ m % 2 * 2 ^ m
 mask m a =
     let one : 2 ^ m ≡ 2 ^ (1 + m) - 2 ^ m = rw pow-add (omega arith) in
     ap (bitAnd a) one ∙ and-high a 1 m

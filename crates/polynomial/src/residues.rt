@@ -3,8 +3,9 @@ ghost use mathlib.Core.Path.{_≡_};
 ghost use Prim.Native.Nat.{_*_, _^_, _<_};
 ghost use Rattle.definitions.specs.Polynomial.{prod, power, rem};
 ghost use Rattle.polynomial.specs.Modulus.{Modulus};
+use crate::digits;
 
-// x times y. The mask compiles to a conditional move, where a comparison would be a branch that the data decides.
+// x times y, with one conditional subtraction of p. The mask compiles to a conditional move, where a comparison would be a branch that the data decides.
 pub fn times_x(y: u32, p: u32, lead: u32) -> u32
     requires { ⌜ Modulus p lead ⌝ }
     requires { ⌜ y < lead ⌝ }
@@ -18,21 +19,23 @@ pub fn times_x(y: u32, p: u32, lead: u32) -> u32
     }
 }
 
-// The product of a and b: for each digit of a, the lowest first, b times that power of x is added.
+// The product of a and b, q·X_(i-1) mod p in document 001's equation (6): a step takes one coefficient of a, the highest first, and subtracts p once or not.
 pub fn mul_mod(a: u32, b: u32, p: u32, lead: u32) -> u32
     requires { ⌜ Modulus p lead ⌝ }
     requires { ⌜ b < lead ⌝ }
     ensures { λ r. ⌜ (r ≡ rem (prod a b) p) × (r < lead) ⌝ }
 {
-    let mut left = a;
-    let mut term = b;
-    let mut sum: u32 = 0;
-    while left != 0 {
-        sum ^= left % 2 * term;
-        term = times_x(term, p, lead);
-        left /= 2;
+    if a == 0 {
+        return 0;
     }
-    sum
+    let mut product: u32 = 0;
+    let mut term = 1 << digits::degree_of(a);
+    while term != 0 {
+        let summand = if a & term == 0 { 0 } else { b };
+        product = times_x(product, p, lead) ^ summand;
+        term /= 2;
+    }
+    product
 }
 
 // x to the e: for each digit of e, the highest first, the power is squared, and multiplied by x where the digit is 1.
