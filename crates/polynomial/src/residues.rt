@@ -19,7 +19,7 @@ pub fn times_x(y: u32, p: u32, lead: u32) -> u32
     }
 }
 
-// The product of a and b, q·X_(i-1) mod p in document 001's equation (6): a step takes one coefficient of a, the highest first, and subtracts p once or not.
+// The product of a and b, q and X_(i-1) in document 001, equation (6): a step takes one coefficient of a, the highest first, and one conditional subtraction.
 pub fn mul_mod(a: u32, b: u32, p: u32, lead: u32) -> u32
     requires { ⌜ Modulus p lead ⌝ }
     requires { ⌜ b < lead ⌝ }
