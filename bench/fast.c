@@ -1,6 +1,7 @@
 /* The header's functions in plain C made fast: what the library's figures are set beside. Nothing here is proved; tests/c
    compares it with the reference as it does the library. Quick order tests, one walk down the tree for a page with the slice as workspace,
-   and for t the lightest linear relation between rows x^i q^j mod p, each dimension starting where the one before ended. */
+   and for t the lightest linear relation between rows x^i q^j mod p, each dimension starting where the one before ended; and once more t by
+   counting points in boxes. */
 #include "fast.h"
 #include "fenyurka.h"
 
@@ -265,6 +266,70 @@ FenyurkaTValue fenyurka_t_value(uint32_t degree, uint32_t p, uint32_t q, uint32_
     while (s.last < dimension)
         t = next_t(&s);
     return (FenyurkaTValue){.t = t};
+}
+
+/* ---- t-values by counting */
+
+enum { MOST_COUNTED = 8, MOST_POINTS = 1 << MOST_COUNTED };
+
+/* The first m digits of every coordinate of every point, and a shape of m - t digits among s coordinates. */
+struct points {
+    uint32_t m, s, t, digits[8][MOST_POINTS], shape[8];
+};
+
+static void build(struct points *a, uint32_t p, uint32_t q)
+{
+    uint32_t power = 1;
+    for (uint32_t j = 0; j < a->s; j++, power = times(a->m, p, power, q))
+        for (uint32_t h = 0; h < (uint32_t)1 << a->m; h++) {
+            uint32_t rest = times(a->m, p, h, power), digits = 0;
+            for (uint32_t i = 0; i < a->m; i++, rest = shift(p, rest))
+                digits = 2 * digits | 2 * rest >> a->m;
+            a->digits[j][h] = digits;
+        }
+}
+
+static int fills_evenly(const struct points *a)
+{
+    uint32_t boxes[MOST_POINTS] = {0}, counts[MOST_POINTS] = {0}, all = (uint32_t)1 << a->m;
+    for (uint32_t j = 0; j < a->s; j++)
+        for (uint32_t h = 0; h < all; h++)
+            boxes[h] = boxes[h] << a->shape[j] | a->digits[j][h] >> (a->m - a->shape[j]);
+    for (uint32_t h = 0; h < all; h++)
+        counts[boxes[h]]++;
+    for (uint32_t b = 0; b < all >> a->t; b++)
+        if (counts[b] != (uint32_t)1 << a->t)
+            return 0;
+    return 1;
+}
+
+/* Whether every shape is filled evenly that begins as this one does and shares the digits left from coordinate j on. */
+static int every_shape(struct points *a, uint32_t j, uint32_t left)
+{
+    a->shape[j] = left;
+    if (j + 1 == a->s)
+        return fills_evenly(a);
+    for (uint32_t d = 0; d <= left; d++) {
+        a->shape[j] = d;
+        if (!every_shape(a, j + 1, left - d))
+            return 0;
+    }
+    return 1;
+}
+
+FenyurkaTValue fenyurka_count_t_value(uint32_t degree, uint32_t p, uint32_t q, uint32_t dimension)
+{
+    struct points a = {.m = degree, .s = dimension};
+    if (degree - 2 > MOST_COUNTED - 2)
+        return (FenyurkaTValue){.refusal = 1};
+    if (dimension - 1 > 7)
+        return (FenyurkaTValue){.refusal = 2};
+    if (!well_formed(degree, p, q))
+        return (FenyurkaTValue){.refusal = 3};
+    build(&a, p, q);
+    while (a.t < degree && !every_shape(&a, 0, degree - a.t))
+        a.t++;
+    return (FenyurkaTValue){.t = a.t};
 }
 
 /* ---- pages */

@@ -186,6 +186,24 @@ static void t_values(void)
     measured("t(8) of any pair", SAMPLE);
 }
 
+/* By the plain counter, which goes to degree 8: rows of the list, and the pair for which it counts the most shapes. */
+static void counts(void)
+{
+    size_t n = rows < SAMPLE ? rows : SAMPLE;
+    mark();
+    for (size_t k = 0; k < n; k++) {
+        FenyurkaTValue value = fenyurka_count_t_value(degree, sample(k)[0], sample(k)[1], 8);
+        if (value.refusal != 0 || value.t != sample(k)[8])
+            wrong("t-value counted");
+    }
+    measured("t(8) of an accepted pair, counted", n);
+    mark();
+    FenyurkaTValue longest = fenyurka_count_t_value(degree, 440, 53, 8);
+    measured("t(8) of (440, 53), counted", 1);
+    if (longest.refusal != 0 || longest.t != fenyurka_t_value(degree, 440, 53, 8).t)
+        wrong("t-value counted");
+}
+
 /* Of the list's first pair, whose step is at least the floor in these degrees. */
 static void points(uint32_t floor)
 {
@@ -273,6 +291,8 @@ int main(void)
         refusals();
         quotients();
         t_values();
+        if (degree == 8)
+            counts();
         points(0);
         points(FLOOR);
         writing();

@@ -1,4 +1,5 @@
-# Sets two lists of counts beside each other. A line: instructions, degree, units, what. Growth is over the figure two degrees below.
+# Sets two lists of counts beside each other. A line: instructions, degree, units, what. Growth is over the figure two degrees below. Some calls are
+# measured for degree 8 alone.
 {
     figure = $1 / $3
     degree = $2
@@ -25,6 +26,8 @@ END {
     for (k = 1; k <= kinds; k++)
         for (m = 8; m <= 16; m += 2) {
             w = order[k]
+            if (!((w, m) in plain))
+                continue
             printf "%-44s %6d %14.0f %14.0f %7.2f %12s %8s\n", m == 8 ? w : "", m, ours[w, m], plain[w, m], ours[w, m] / plain[w, m],
                 growth(ours[w, m], ours[w, m - 2]), growth(plain[w, m], plain[w, m - 2])
         }

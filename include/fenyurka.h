@@ -28,7 +28,8 @@
  *
  * No function allocates memory, keeps a pointer, prints or has state, so calls with different buffers may run in parallel.
  * fenyurka_write needs less than 128 KB of stack, since it keeps a whole list there: mind this in a thread with a small stack. Any
- * other call needs less than 16 KB (8 KB for a page, 5 KB for fenyurka_points, 2 KB otherwise). tests/c/stack.c measures this.
+ * other call needs less than 16 KB (13 KB for fenyurka_count_t_value, 9 KB for a page, 5 KB for fenyurka_points, 2 KB otherwise).
+ * tests/c/stack.c measures this.
  *
  * Link with the archive that `rt staticlib interface` writes (x86-64 Linux). tests/c/declarations compares this file with its source.
  */
@@ -44,7 +45,7 @@ extern "C" {
 
 /* Why a call is refused. */
 enum fenyurka_refusal {
-    FENYURKA_WRONG_DEGREE = 1,         /* the degree is not 2 to 16 */
+    FENYURKA_WRONG_DEGREE = 1,         /* the degree is not 2 to 16; for fenyurka_count_t_value, not 2 to 8 */
     FENYURKA_WRONG_DIMENSION = 2,      /* the top dimension is not 3 to 8; for a single t-value, the dimension is not 1 to 8 */
     FENYURKA_ILL_FORMED_PAIR = 3,      /* not 2^m <= p < 2^(m+1) and 1 <= q < 2^m */
     FENYURKA_NOT_PRIMITIVE = 4,        /* 2^m - 1 is not the smallest e >= 1 with x^e = 1 (mod p) */
@@ -111,6 +112,14 @@ typedef struct FenyurkaTValue {
  * Refusals: 1, 2, 3.
  */
 FenyurkaTValue fenyurka_t_value(uint32_t degree, uint32_t p, uint32_t q, uint32_t dimension);
+
+/*
+ * The same t-value for degrees 2 to 8, found by counting: all 2^m points are built, and for every way to share digits the points in each
+ * box are counted, as the sentence above says it. No linear algebra is used (crates/counter/src/lib.rt is one page). Proved: where the
+ * degree is 2 to 8, the result equals that of fenyurka_t_value. Much slower: up to 10 million instructions (docs/SPEED.md).
+ * Refusals: 1 (here where the degree is not 2 to 8), 2, 3.
+ */
+FenyurkaTValue fenyurka_count_t_value(uint32_t degree, uint32_t p, uint32_t q, uint32_t dimension);
 
 typedef struct FenyurkaPage {
     uint32_t refusal;

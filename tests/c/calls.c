@@ -12,10 +12,10 @@
 
 /* ---- what is compared, and chance */
 
-enum call { JUDGE, QUOTIENTS, T_VALUE, FIRST_PAGE, PAGE_AFTER, WALK, POINTS, OPEN, LOOKUP, ROW, END, WRITE, READ_BACK, CALLS };
+enum call { JUDGE, QUOTIENTS, T_VALUE, COUNT, FIRST_PAGE, PAGE_AFTER, WALK, POINTS, OPEN, LOOKUP, ROW, END, WRITE, READ_BACK, CALLS };
 static const char *const names[CALLS] = {
-    "judgements", "quotient tests", "t-values",  "first pages",    "pages after a pair", "walks to the end", "points",
-    "openings",   "lookups",        "rows read", "ends of bodies", "files",              "files read back",
+    "judgements", "quotient tests", "t-values",  "t-values counted", "first pages", "pages after a pair", "walks to the end",
+    "points",     "openings",       "lookups",   "rows read",        "ends of bodies", "files",           "files read back",
 };
 /* How often each was answered with each number, and how often it differed. */
 enum { MOST_REFUSAL = 14 };
@@ -159,6 +159,17 @@ void try_t_value(uint32_t m, uint32_t p, uint32_t q, uint32_t dimension)
     uint32_t t = 0, refusal = reference_t_value(m, p, q, dimension, &t);
     FenyurkaTValue got = fenyurka_t_value(m, p, q, dimension);
     SAME(T_VALUE, refusal, got.refusal == refusal && got.t == t, m, p, q, dimension);
+}
+
+/* Both engines of a degree that is counted, and both ways of the reference. */
+void try_count(uint32_t m, uint32_t p, uint32_t q, uint32_t dimension)
+{
+    uint32_t t = 0, refusal = reference_count(m, p, q, dimension, &t);
+    FenyurkaTValue got = fenyurka_count_t_value(m, p, q, dimension);
+    int agrees = got.refusal == refusal && got.t == t;
+    if (refusal == 0)
+        agrees = agrees && fenyurka_t_value(m, p, q, dimension).t == t && reference_t_by_rank(m, p, q, dimension) == t;
+    SAME(COUNT, refusal, agrees, m, p, q, dimension);
 }
 
 void try_page(uint32_t m, uint32_t top, uint32_t floor, int after, uint32_t p, uint32_t q, size_t length)

@@ -25,6 +25,7 @@ enum { MOST_BYTES = 1 << 21 };
 void try_judge(uint32_t m, uint32_t floor, uint32_t p, uint32_t q);
 void try_quotients(uint32_t m, uint32_t p, uint32_t q);
 void try_t_value(uint32_t m, uint32_t p, uint32_t q, uint32_t dimension);
+void try_count(uint32_t m, uint32_t p, uint32_t q, uint32_t dimension);
 void try_page(uint32_t m, uint32_t top, uint32_t floor, int after, uint32_t p, uint32_t q, size_t length);
 void try_walk(uint32_t m, uint32_t top, uint32_t floor, uint32_t least, uint32_t most);
 void try_points(uint32_t m, uint32_t floor, uint32_t p, uint32_t q, uint32_t first, size_t length);

@@ -1,4 +1,4 @@
-/* Compares the library, through its header, with the reference: which pairs, floors, pages and points are compared. Prints what was
+/* Compares the library, through its header, with the reference: which pairs, floors, dimensions, pages and points are compared. Prints what was
    compared and how often; exit status 1 on any difference. An argument is the seed of the random part. */
 #include "calls.h"
 #include "reference.h"
@@ -189,6 +189,33 @@ static void random_pages(void)
     }
 }
 
+/* ---- t-values by counting */
+
+/* All pairs of degrees 2 to 5 in all dimensions, and numbers beside these; samples of degrees 6 to 8, with the pair of degree 8 that
+   takes longest; degrees that are not counted. */
+static void counts(void)
+{
+    static const unsigned samples[MOST_COUNTED + 1] = {[6] = 200, 80, 30};
+    uint32_t p, q;
+    for (uint32_t m = LEAST_DEGREE; m <= 5; m++)
+        for (p = 0; p <= (uint32_t)2 << m; p++)
+            for (q = 0; q <= (uint32_t)1 << m; q++)
+                for (uint32_t s = 0; s <= MOST_DIMENSION + 1; s++)
+                    try_count(m, p, q, s);
+    for (uint32_t m = 6; m <= MOST_COUNTED; m++)
+        for (unsigned i = 0; i < samples[m]; i++) {
+            draw_pair(m, &p, &q);
+            for (uint32_t s = 1; s <= MOST_DIMENSION; s++)
+                try_count(m, p, q, s);
+        }
+    try_count(8, 440, 53, 8);
+    for (unsigned i = 0; i < 2000; i++) {
+        uint32_t m = LEAST_DEGREE + below(15);
+        draw_pair(m, &p, &q);
+        try_count(m < 6 ? near(m) : m + 3, p, q, below(10));
+    }
+}
+
 /* ---- extreme numbers in every place */
 
 static void extreme_pages(uint32_t m, uint32_t top)
@@ -213,6 +240,7 @@ static void extreme_numbers(void)
                 for (int d = 0; d < EXTREMES; d += 1 + (int)below(3)) {
                     try_judge(extremes[a], extremes[d], extremes[b], extremes[c]);
                     try_t_value(extremes[a], extremes[b], extremes[c], extremes[d]);
+                    try_count(extremes[a], extremes[b], extremes[c], extremes[d]);
                     try_points(extremes[a], draw_floor(), extremes[b], extremes[c], extremes[d], below(3));
                 }
             }
@@ -233,6 +261,8 @@ int main(int argc, char **argv)
     part("all pairs of degrees 2 to 6");
     for (uint32_t m = LEAST_DEGREE; m <= 6; m++)
         small_degree(m);
+    part("t-values counted, of all pairs of degrees 2 to 5 and samples of 6 to 8");
+    counts();
     part("extreme numbers in every place");
     extreme_numbers();
     part("catalogues, whole and damaged");

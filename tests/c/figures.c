@@ -1,5 +1,5 @@
 /* Compares the reference with figures printed elsewhere: the examples of document 01 and what a floor leaves of them, K of (11, 2) and
-   the orders of refusals in document 02, and Tables 1 and 2 of document 001 for m = 10 to 16, typed from their pages. Prints each
+   the orders of refusals in document 02, the t-value that it prints, and Tables 1 and 2 of document 001 for m = 10 to 16, typed from their pages. Prints each
    comparison; exit status 1 where one fails that is not noted. */
 #include "reference.h"
 
@@ -80,6 +80,23 @@ static void t_values(void)
         hold("t-value", reference_t_value(c[0], c[1], c[2], c[3], &t), 0);
         hold("t", t, c[4]);
         hold("t by rank", reference_t_by_rank(c[0], c[1], c[2], c[3]), c[4]);
+    }
+}
+
+/* Document 02: 1 for degrees outside 2 to 8, else the refusals of a single t-value; (11, 2) in dimension 2 is its example. */
+static void counts(void)
+{
+    static const uint32_t cases[][6] = {
+        /* degree, p, q, dimension, refusal, t */
+        {3, 11, 2, 2, 0, 1},   {1, 2, 1, 2, 1, 0},    {9, 529, 100, 3, 1, 0}, {16, 65579, 2, 8, 1, 0}, {17, 11, 2, 2, 1, 0},
+        {9, 529, 100, 9, 1, 0}, {9, 16, 1, 9, 1, 0},  {3, 11, 2, 0, 2, 0},    {3, 11, 2, 9, 2, 0},     {3, 16, 1, 9, 2, 0},
+        {3, 16, 1, 2, 3, 0},   {8, 256, 256, 1, 3, 0}, {8, 512, 1, 8, 3, 0},  {2, 7, 0, 1, 3, 0},
+    };
+    for (size_t i = 0; i < sizeof cases / sizeof cases[0]; i++) {
+        const uint32_t *c = cases[i];
+        uint32_t t = 0;
+        hold("counting", reference_count(c[0], c[1], c[2], c[3], &t), c[4]);
+        hold("t counted", t, c[5]);
     }
 }
 
@@ -291,6 +308,7 @@ int main(void)
     judging_at_floors();
     quotients();
     t_values();
+    counts();
     pages();
     pages_at_floors();
     orders_of_pages();

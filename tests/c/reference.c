@@ -264,8 +264,13 @@ uint32_t reference_t_value(uint32_t m, uint32_t p, uint32_t q, uint32_t dimensio
         return 2;
     if (!well_formed(m, p, q))
         return 3;
-    *t = m <= 8 ? reference_t_by_counting(m, p, q, dimension) : reference_t_by_rank(m, p, q, dimension);
+    *t = m <= MOST_COUNTED ? reference_t_by_counting(m, p, q, dimension) : reference_t_by_rank(m, p, q, dimension);
     return 0;
+}
+
+uint32_t reference_count(uint32_t m, uint32_t p, uint32_t q, uint32_t dimension, uint32_t *t)
+{
+    return m > MOST_COUNTED ? 1 : reference_t_value(m, p, q, dimension, t);
 }
 
 /* ---- the ranked list and its pages */

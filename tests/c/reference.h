@@ -6,7 +6,7 @@
 #include <stdint.h>
 
 enum { LEAST_DEGREE = 2, MOST_DEGREE = 16, LEAST_TOP = 3, MOST_TOP = 8, MOST_DIMENSION = 8, MOST_FLOOR = 32 };
-enum { LONGEST_ROW = 9, MOST_ENTRIES = 15 };
+enum { LONGEST_ROW = 9, MOST_ENTRIES = 15, MOST_COUNTED = 8 };
 
 static inline int lawful_degree(uint32_t m)
 {
@@ -27,6 +27,8 @@ static inline int lawful_floor(uint32_t floor)
 uint32_t reference_judge(uint32_t degree, uint32_t floor, uint32_t p, uint32_t q, uint32_t *step);
 uint32_t reference_quotients(uint32_t degree, uint32_t p, uint32_t q, uint32_t *largest, uint32_t *common);
 uint32_t reference_t_value(uint32_t degree, uint32_t p, uint32_t q, uint32_t dimension, uint32_t *t);
+/* The same of the plain counter, for degrees 2 to MOST_COUNTED. */
+uint32_t reference_count(uint32_t degree, uint32_t p, uint32_t q, uint32_t dimension, uint32_t *t);
 
 /* The t-value of a well-formed pair: by counting points in every box, and by the ranks of generating matrices. */
 uint32_t reference_t_by_counting(uint32_t degree, uint32_t p, uint32_t q, uint32_t dimension);

@@ -71,6 +71,11 @@ static void t_value(void)
     sink = fenyurka_t_value(list.degree, rows[0], rows[1], TOP).t;
 }
 
+static void count_t_value(void)
+{
+    sink = fenyurka_count_t_value(list.degree, rows[0], rows[1], TOP).t;
+}
+
 static void points(void)
 {
     sink = (uint32_t)fenyurka_points(list.degree, list.floor, rows[0], rows[1], 0, room, sizeof room / sizeof room[0]).count;
@@ -124,6 +129,7 @@ static const struct {
     {"fenyurka_judge", judge, STATED},
     {"fenyurka_quotients", quotients, STATED},
     {"fenyurka_t_value", t_value, STATED},
+    {"fenyurka_count_t_value", count_t_value, STATED},
     {"fenyurka_points", points, STATED},
     {"fenyurka_open", open, STATED},
     {"fenyurka_lookup", lookup, STATED},

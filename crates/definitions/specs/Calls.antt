@@ -1,14 +1,14 @@
--- Judging, the quotient test, a single t-value, pages and points: what each call answers and what each lent slice holds afterwards, for every input.
--- Assumes nothing.
-use Rattle.definitions.specs.Base.{Bool, not, List, [], _∷_, _++_, ℕ, _-_, _/_, min, ltb, length, Refusal, WrongDegree, WrongDimension}
+-- Judging, the quotient test, a single t-value by either engine, pages and points: what each call answers and what each lent slice holds afterwards,
+-- for every input. Assumes nothing.
+use Rattle.definitions.specs.Base.{Bool, not, _&&_, List, [], _∷_, _++_, ℕ, _-_, _/_, min, leb, ltb, length, Refusal, WrongDegree, WrongDimension}
 use Rattle.definitions.specs.Base.{IllFormedPair, NotPrimitive, QuotientNotLinear, StepNotCoprime, StepBelowFloor, WrongFloor, ShortSlice, BeyondPeriod}
 use Rattle.definitions.specs.Base.{Selection}
 use Rattle.definitions.specs.Base.{Position, Start, After, PageRequest, Judgement, Accepted, Rejected, Uniformity, Value, Undefined, PageAnswer}
 use Rattle.definitions.specs.Base.{Page, NoPage, PointsAnswer, Written, NotWritten, QuotientTest, Degrees, Untested}
 use Rattle.definitions.specs.Number.{join, over}
 use Rattle.definitions.specs.Answers.{Situation, situation, unless}
-use Rattle.definitions.specs.Generator.{lawfulDegree, lawfulFloor, wellFormed, period, primitive, linearQuotients, quotientDegree, commonDegree}
-use Rattle.definitions.specs.Generator.{coprimeStep, step, reachesFloor}
+use Rattle.definitions.specs.Generator.{leastDegree, lawfulDegree, lawfulFloor, wellFormed, period, primitive, linearQuotients, quotientDegree}
+use Rattle.definitions.specs.Generator.{commonDegree, coprimeStep, step, reachesFloor}
 use Rattle.definitions.specs.Points.{words}
 use Rattle.definitions.specs.Net.{tValue}
 use Rattle.definitions.specs.Pages.{page, more}
@@ -49,6 +49,24 @@ measuring m p q s =
 
 unfoldable pub uniformity : ℕ → ℕ → ℕ → ℕ → Uniformity
 uniformity m p q s = unless (measuring m p q s) Undefined (Value (tValue m p q s))
+
+-- The degrees of the plain counter: 2 to 8.
+abbrev pub largestCounted : ℕ
+largestCounted = 8
+
+abbrev pub countedDegree : ℕ → Bool
+countedDegree m = leb leastDegree m && leb m largestCounted
+
+-- The plain counter: 1 for a degree that it does not count, 2 and 3 as for a single t-value; else the same t-value.
+unfoldable pub counting : ℕ → ℕ → ℕ → ℕ → List Situation
+counting m p q s =
+    situation (not (countedDegree m)) WrongDegree
+    ∷ situation (not (lawfulDimension s)) WrongDimension
+    ∷ situation (not (wellFormed m p q)) IllFormedPair
+    ∷ []
+
+unfoldable pub counted : ℕ → ℕ → ℕ → ℕ → Uniformity
+counted m p q s = unless (counting m p q s) Undefined (Value (tValue m p q s))
 
 -- The list that a page request means, and the request for a page of a list.
 abbrev pub selectionOf : PageRequest → Selection

@@ -1,5 +1,5 @@
 -- Laws that keep the definitions honest: what a reader would check first. By the definitions' own cases. Assumes nothing.
-use Rattle.definitions.specs.Base.{Bool, true, false, List, [], _∷_, map, ℕ, zero, suc, _+_, eqb, length, drop, Refusal, Position, Start, After}
+use Rattle.definitions.specs.Base.{Bool, true, false, List, [], _∷_, _++_, map, ℕ, zero, suc, _+_, eqb, length, drop, Refusal, Position, Start, After}
 use Rattle.definitions.specs.Base.{PageRequest}
 use mathlib.Core.Path.{_≡_, refl, _∙_}
 use mathlib.Core.Bool.{and-eq-true-iff}
@@ -13,8 +13,10 @@ use Rattle.definitions.specs.Answers.{refusalNumber, Situation, unless}
 use Rattle.definitions.specs.Generator.{expansion, linear, linearQuotients, step, reachesFloor}
 use Rattle.definitions.specs.Net.{isNet, tValue}
 use Rattle.definitions.specs.Pages.{Cut, rest, page, more}
-use Rattle.definitions.specs.Calls.{judging, pageRequest, paging, pointing}
+use Rattle.definitions.specs.Calls.{judging, counting, pageRequest, paging, pointing}
 use Rattle.definitions.specs.Examples.{calls}
+use Rattle.definitions.specs.Listing.{newline, lineOf, wordsOf, isNumber, decimalFrom, lineNumbers, letters, decimalWithin, decimal}
+use Rattle.definitions.specs.Recount.{bothText, pairText, recountText, recount}
 use Rattle.definitions.specs.Writing.{entriesOf, rankedFile, lawfulDegrees, lawfulTops, ascending, entering, writing, fileBuffer}
 
 -- A page that says that nothing follows has every row above its cut.
@@ -92,3 +94,15 @@ pub floor-orders : map (λ (l : List Situation). unless l refusalNumber 0)
     ≡ 1 ∷ 12 ∷ 6 ∷ 2 ∷ 12 ∷ 11 ∷ 11 ∷ 2 ∷ 12 ∷ []
 unfolding calls entering entriesOf lawfulDegrees lawfulTops ascending
 floor-orders = refl
+
+-- The plain counter counts degree 8 and not 9; where 1, 2 and 3 meet, the lowest is given.
+pub counting-orders : map (λ (l : List Situation). unless l refusalNumber 0)
+    (counting 8 440 53 8 ∷ counting 9 529 100 3 ∷ counting 1 2 1 1 ∷ counting 9 16 1 9 ∷ counting 3 16 1 9 ∷ counting 3 16 1 2 ∷ [])
+    ≡ 0 ∷ 1 ∷ 1 ∷ 1 ∷ 2 ∷ 3 ∷ []
+unfolding calls counting
+counting-orders = refl
+
+-- What document 02 prints for `3 11 2 2`.
+pub recount-example : recount (letters "3 11 2 2") ≡ letters "quick 1 count 1" ++ newline ∷ []
+unfolding calls counting lineOf wordsOf isNumber decimalFrom lineNumbers decimalWithin decimal bothText pairText recountText recount
+recount-example = refl

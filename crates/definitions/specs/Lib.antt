@@ -12,5 +12,6 @@ pub mod Calls
 pub mod Examples
 pub mod Catalogue
 pub mod Listing
+pub mod Recount
 pub mod Writing
 pub mod Honest

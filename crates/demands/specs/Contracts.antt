@@ -17,7 +17,7 @@ use Rattle.definitions.specs.Answers.{fileValues}
 use Rattle.definitions.specs.Generator.{lawfulDegree, lawfulFloor, period, tree}
 use Rattle.definitions.specs.Points.{words}
 use Rattle.definitions.specs.Ranking.{lawfulTop}
-use Rattle.definitions.specs.Calls.{judging, testing, measuring, selectionOf, pageRequest, paging, pointing}
+use Rattle.definitions.specs.Calls.{judging, testing, measuring, counting, selectionOf, pageRequest, paging, pointing}
 use Rattle.definitions.specs.Catalogue.{looking, lookupNumbers}
 use Rattle.definitions.specs.Writing.{writing}
 use Rattle.definitions.specs.declared.Refusal.{Refusal}
@@ -39,19 +39,21 @@ use Rattle.demands.specs.Arguments.{second, third, sixth}
 use Rattle.demands.specs.Demand1.{Exact, LowestGiven, numberOf, formSituation, opening-exact, looking-empty, looking-exact, looking-lowest}
 use Rattle.demands.specs.Demand1.{ByTable, judging-table, paging-after-table, pointing-table}
 use Rattle.demands.specs.Demand1.{judging-exact, testing-exact, testing-lowest, measuring-exact, measuring-lowest}
-use Rattle.demands.specs.Demand1.{paging-exact, paging-keeps, pointing-exact, pointing-keeps}
+use Rattle.demands.specs.Demand1.{counting-exact, counting-lowest, paging-exact, paging-keeps, pointing-exact, pointing-keeps}
 use Rattle.demands.specs.Demand1.{writing-exact, writing-lowest, writing-keeps}
 use Rattle.demands.specs.Quotients.{Tested, tested-exactly, tree-tested, plane-tested, CarriesK, carriedOf, judging-carries, pointing-carries}
 use Rattle.demands.specs.Quotients.{paging-carries, paging-first-carries}
 use Rattle.demands.specs.Catalogues.{reading-exact}
 use Rattle.demands.specs.Files.{WrittenFile, written-file}
 use Rattle.demands.specs.Demand2.{Conditions, accepted-exactly, uniformity-smallest, period-written}
+use Rattle.demands.specs.Engines.{counted-smallest}
 use Rattle.demands.specs.Demand3.{Faithful, ReadsList, faithful-list}
 use Rattle.demands.specs.Floors.{baseJudging, basePointing, basePaging, base-judging-lowest, base-pointing-lowest, base-paging-lowest}
 use Rattle.demands.specs.Period.{FaithfulPoints, ReadsPeriod, faithful-period}
 use Rattle.generator.proofs.judge.Reads as judge
 use Rattle.quotient_test.proofs.test_quotients.Reads as test-quotients
 use Rattle.net.proofs.t_value.Reads as t-value
+use Rattle.counter.proofs.count_t_value.Reads as count-t-value
 use Rattle.ranking.proofs.page.Reads as page
 use Rattle.points.proofs.points.Reads as points
 use Rattle.catalogue.proofs.«open».Reads as opened
@@ -108,6 +110,18 @@ module _ (κs : _) (m p q s : ℕ) (r : _) (e : _) (h : t-value.Post κs (m, (p,
 
   pub t-value-is-smallest : (t : ℕ) → r ≡ Value t → SmallestNet m p q s t
   t-value-is-smallest t d = uniformity-smallest m p q s t (sym h ∙ d)
+
+-- ---- the same by the plain counter
+
+module _ (κs : _) (m p q s : ℕ) (r : _) (e : _) (h : count-t-value.Post κs (m, (p, (q, (s, tt)))) r e) where
+  pub count-exact : Exact (counting m p q s) (numberOf (uniformityValues r))
+  count-exact = rw h (counting-exact m p q s)
+
+  pub count-lowest : LowestGiven (counting m p q s) (numberOf (uniformityValues r))
+  count-lowest = rw h (counting-lowest m p q s)
+
+  pub count-is-smallest : (t : ℕ) → r ≡ Value t → SmallestNet m p q s t
+  count-is-smallest t d = counted-smallest m p q s t (sym h ∙ d)
 
 -- ---- points
 

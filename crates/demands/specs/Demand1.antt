@@ -14,7 +14,7 @@ use Rattle.definitions.specs.Answers.{Situation, situation, refusalNumber, unle
 use Rattle.definitions.specs.Answers.{quotientTestValues, lookupValues, fileValues}
 use Rattle.definitions.specs.Generator.{lawfulDegree, lawfulFloor, wellFormed, period, primitive, linearQuotients, coprimeStep, reachesFloor}
 use Rattle.definitions.specs.Ranking.{lawfulTop, lawfulDimension, rowWidth}
-use Rattle.definitions.specs.Calls.{testing, quotientTest}
+use Rattle.definitions.specs.Calls.{testing, quotientTest, countedDegree, counting, counted}
 use Rattle.definitions.specs.Calls.{pairSituations, judging, judgement, measuring, uniformity, selectionOf, pageRequest, positionSituations, paging, pageAnswer}
 use Rattle.definitions.specs.Calls.{pageSlice, pointing, pointsAnswer, pointsSlice}
 use Rattle.definitions.specs.Catalogue.{catalogueForm, opening, entryOf, looking, lookupNumbers, lookupPart, readerTop}
@@ -158,6 +158,25 @@ module _ (m p q s : ℕ) where
   pub measuring-situations : map (applies (measuring m p q s)) (1 ∷ 2 ∷ 3 ∷ []) ≡ not (lawfulDegree m) ∷ not (lawfulDimension s) ∷ not (wellFormed m p q) ∷ []
   unfolding measuring applies
   measuring-situations = refl
+
+-- ---- the same by the plain counter
+
+module _ (m p q s : ℕ) where
+  pub counting-uses : numbersOf (counting m p q s) ≡ 1 ∷ 2 ∷ 3 ∷ []
+  unfolding counting
+  counting-uses = refl
+
+  pub counting-exact : Exact (counting m p q s) (numberOf (uniformityValues (counted m p q s)))
+  unfolding counting counted
+  counting-exact = exact uniformityValues (counting m p q s) Undefined _ refl (λ r. refl) refl
+
+  pub counting-lowest : LowestGiven (counting m p q s) (numberOf (uniformityValues (counted m p q s)))
+  unfolding counting
+  counting-lowest = lowest counting-exact refl
+
+  pub counting-situations : map (applies (counting m p q s)) (1 ∷ 2 ∷ 3 ∷ []) ≡ not (countedDegree m) ∷ not (lawfulDimension s) ∷ not (wellFormed m p q) ∷ []
+  unfolding counting applies
+  counting-situations = refl
 
 -- ---- a page, at the start and after a pair
 

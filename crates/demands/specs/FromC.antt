@@ -19,7 +19,7 @@ use Rattle.definitions.specs.Ranking.{lawfulTop}
 use Rattle.definitions.specs.Catalogue.{looking, lookupNumbers}
 use Rattle.definitions.specs.Writing.{entriesOf, rankedFile, writing, fileAnswer, fileBuffer}
 use Rattle.definitions.specs.Net.{tValue}
-use Rattle.definitions.specs.Calls.{judging, judgement, testing, quotientTest, measuring, uniformity, paging, pageAnswer, pageSlice}
+use Rattle.definitions.specs.Calls.{judging, judgement, testing, quotientTest, measuring, uniformity, counting, counted, paging, pageAnswer, pageSlice}
 use Rattle.definitions.specs.Calls.{pointing, pointsAnswer, pointsSlice}
 use Rattle.definitions.specs.declared.Position.{Position}
 use Rattle.definitions.specs.declared.Position.the-variants.{Start, After}
@@ -49,6 +49,7 @@ use Rattle.interface.specs.declared.FenyurkaList.{FenyurkaList}
 use Rattle.interface.proofs.fenyurka_judge.Reads as c-judge
 use Rattle.interface.proofs.fenyurka_quotients.Reads as c-quotients
 use Rattle.interface.proofs.fenyurka_t_value.Reads as c-t-value
+use Rattle.interface.proofs.fenyurka_count_t_value.Reads as c-count-t-value
 use Rattle.interface.proofs.fenyurka_first_page.Reads as c-first-page
 use Rattle.interface.proofs.fenyurka_page_after.Reads as c-page-after
 use Rattle.interface.proofs.fenyurka_points.Reads as c-points
@@ -57,12 +58,13 @@ use Rattle.interface.proofs.fenyurka_lookup.Reads as c-lookup
 use Rattle.interface.proofs.fenyurka_write.Reads as c-write
 use Rattle.demands.specs.Arguments.{second, third, fourth, sixth}
 use Rattle.demands.specs.Demand1.{Exact, LowestGiven, ByTable, numberOf, formSituation, opening-exact, looking-exact, looking-lowest}
-use Rattle.demands.specs.Demand1.{judging-exact, judging-table, measuring-exact, measuring-lowest, paging-exact}
+use Rattle.demands.specs.Demand1.{judging-exact, judging-table, measuring-exact, measuring-lowest, counting-exact, counting-lowest, paging-exact}
 use Rattle.demands.specs.Demand1.{paging-after-table, pointing-exact, pointing-table}
 use Rattle.demands.specs.Demand1.{testing-exact, testing-lowest, writing-exact, writing-lowest}
 use Rattle.demands.specs.Quotients.{Tested, tested-exactly, CarriesK, judging-carries, pointing-carries, paging-carries, paging-first-carries}
 use Rattle.demands.specs.Files.{WrittenFile, written-file}
 use Rattle.demands.specs.Demand2.{Conditions, accepted-exactly, uniformity-smallest, period-written}
+use Rattle.demands.specs.Engines.{counted-smallest}
 use Rattle.demands.specs.Demand3.{Faithful, ReadsList, faithful-list}
 use Rattle.demands.specs.Floors.{baseJudging, basePointing, basePaging, base-judging-lowest, base-pointing-lowest, base-paging-lowest}
 use Rattle.demands.specs.Period.{FaithfulPoints, ReadsPeriod, faithful-period}
@@ -116,6 +118,16 @@ module _ (m p q : ℕ) where
         let given = measured-zero (rw h at z) in
         let same : r .t ≡ tValue m p q s = rw (h, given) in
         rw same (uniformity-smallest m p q s (tValue m p q s) given)
+
+    counted-zero : numberOf (uniformityValues (counted m p q s)) ≡ 0 → counted m p q s ≡ Value (tValue m p q s)
+    unfolding counted
+    counted-zero z = unless-given Undefined _ (counting-exact m p q s .none .0 z)
+
+    result-counted : (r : FenyurkaTValue) → r ≡ tValueResult (uniformityValues (counted m p q s)) → r .refusal ≡ 0 → SmallestNet m p q s (r .t)
+    result-counted r h z =
+        let given = counted-zero (rw h at z) in
+        let same : r .t ≡ tValue m p q s = rw (h, given) in
+        rw same (counted-smallest m p q s (tValue m p q s) given)
 
 module _ (request : PageRequest) (s : List ℕ) (r : FenyurkaPage) (h : r ≡ pageResult (pageValues (pageAnswer request s))) where
   result-keeps : 0 < r .refusal → pageSlice request s ≡ s
@@ -176,6 +188,16 @@ module _ (κs : _) (m p q s : ℕ) (r : _) (e : _) (h : c-t-value.Post κs (m, (
 
   pub c-t-value-smallest : r .refusal ≡ 0 → SmallestNet m p q s (r .t)
   c-t-value-smallest = result-smallest m p q s r h
+
+module _ (κs : _) (m p q s : ℕ) (r : _) (e : _) (h : c-count-t-value.Post κs (m, (p, (q, (s, tt)))) r e) where
+  pub c-count-exact : Exact (counting m p q s) (r .refusal)
+  c-count-exact = rw h (counting-exact m p q s)
+
+  pub c-count-lowest : LowestGiven (counting m p q s) (r .refusal)
+  c-count-lowest = rw h (counting-lowest m p q s)
+
+  pub c-count-smallest : r .refusal ≡ 0 → SmallestNet m p q s (r .t)
+  c-count-smallest = result-counted m p q s r h
 
 module _ (κs : _) (list : FenyurkaList) (rows : _) (r : _) (e : _) (h : c-first-page.Post κs (list, (rows, tt)) r e) where
   pub c-first-page-exact : Exact (paging (pageOf list Start) (now rows)) (r .refusal)

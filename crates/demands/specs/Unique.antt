@@ -10,6 +10,7 @@ use borrow.Fn.World.{World, Pr}
 use Rattle.generator.proofs.judge.Reads as judge
 use Rattle.quotient_test.proofs.test_quotients.Reads as test-quotients
 use Rattle.net.proofs.t_value.Reads as t-value
+use Rattle.counter.proofs.count_t_value.Reads as count-t-value
 use Rattle.ranking.proofs.page.Reads as page
 use Rattle.points.proofs.points.Reads as points
 use Rattle.catalogue.proofs.«open».Reads as opened
@@ -26,6 +27,7 @@ use Rattle.listing.proofs.put_row.Reads as put-row
 use Rattle.listing.proofs.put_page.Reads as put-page
 use Rattle.listing.proofs.put_total.Reads as put-total
 use Rattle.listing.proofs.put_refused.Reads as put-refused
+use Rattle.recount_line.proofs.put_recount.Reads as put-recount
 use Rattle.catalogue_line.proofs.answer.Reads as answer
 use Rattle.listing_start.proofs.start.Reads as start
 use Rattle.listing_parts.proofs.parts.next.Reads as next-part
@@ -35,6 +37,7 @@ use Rattle.catalogue_reader.proofs.advance as advance
 use Rattle.interface.proofs.fenyurka_judge.Reads as c-judge
 use Rattle.interface.proofs.fenyurka_quotients.Reads as c-quotients
 use Rattle.interface.proofs.fenyurka_t_value.Reads as c-t-value
+use Rattle.interface.proofs.fenyurka_count_t_value.Reads as c-count-t-value
 use Rattle.interface.proofs.fenyurka_first_page.Reads as c-first-page
 use Rattle.interface.proofs.fenyurka_page_after.Reads as c-page-after
 use Rattle.interface.proofs.fenyurka_points.Reads as c-points
@@ -72,6 +75,9 @@ test-quotients-unique κs a r r′ e e′ = same
 
 pub t-value-unique : Determined t-value.Post (λ κs r e. r)
 t-value-unique κs a r r′ e e′ = same
+
+pub count-t-value-unique : Determined count-t-value.Post (λ κs r e. r)
+count-t-value-unique κs a r r′ e e′ = same
 
 pub open-unique : Determined opened.Post (λ κs r e. r)
 open-unique κs a r r′ e e′ = same
@@ -127,6 +133,9 @@ put-total-unique κs a r r′ e e′ = both
 pub put-refused-unique : Determined put-refused.Post (λ κs r e. r and now (e .0))
 put-refused-unique κs a r r′ e e′ = both
 
+pub put-recount-unique : Determined put-recount.Post (λ κs r e. r and now (e .0))
+put-recount-unique κs a r r′ e e′ = both
+
 -- The next part of the listing's text: two slices, of numbers and of bytes.
 pub next-part-unique : Determined next-part.Post (λ κs r e. r and now (second e) and now (third e))
 next-part-unique κs a r r′ e e′ x y = ap₂ _and_ (same (x .0) (y .0)) (both (x .1) (y .1))
@@ -176,6 +185,9 @@ c-quotients-unique κs a r r′ e e′ = same
 
 pub c-t-value-unique : Determined c-t-value.Post (λ κs r e. r)
 c-t-value-unique κs a r r′ e e′ = same
+
+pub c-count-t-value-unique : Determined c-count-t-value.Post (λ κs r e. r)
+c-count-t-value-unique κs a r r′ e e′ = same
 
 pub c-first-page-unique : Determined c-first-page.Post (λ κs r e. r and now (second e))
 c-first-page-unique κs a r r′ e e′ = both

@@ -4,23 +4,14 @@ use mathlib.Core.Path.{_≡_, sym, _∙_}
 use mathlib.Core.List.{List}
 use Prim.Native.Nat.{ℕ, zero, suc, _+_, _-_, _≤_, _<_}
 use native.Mathlib.Omega.{arith}
-use native.Mathlib.Decide.{ℕ-discrete}
 use lib.ListN.{getD, set, length, replicate}
-use lib.Seq.{getD-set-same, getD-set-other}
 use Rattle.definitions.specs.Polynomial.{prod, rem}
 use Rattle.definitions.specs.Ranking.{largestTop}
+use Rattle.number_laws.specs.Lists.{set-each}
 use Rattle.polynomial_laws.specs.Power.{power-zero, rem-one}
 use Rattle.polynomial.specs.Modulus.{Modulus, modulus-positive, modulus-one}
 use Rattle.net_laws.specs.Point.{digitRow, digitRow-first, digitRow-next}
 use Rattle.digit_rows.specs.Powers.{Residues, FirstPowers}
-
-set-each : (Q : ℕ → ℕ → Type 0) (xs : List ℕ) (j v : ℕ) → j < length xs → Q j v → (i : ℕ) → ((i ≡ j → ⊥) → Q i (getD xs i 0))
-    → Q i (getD (set xs j v) i 0)
-set-each Q xs j v fits new i old = at (ℕ-discrete i j)
-  where
-    at : Dec (i ≡ j) → Q i (getD (set xs j v) i 0)
-    at (yes e) = rw (e, getD-set-same xs j v 0 fits) new
-    at (no e) = rw (getD-set-other xs j i v 0 e) (old e)
 
 module _ {p lead : ℕ} (h : Modulus p lead) where
   pub powers-start : (q : ℕ) → FirstPowers q p 1 (replicate largestTop 1)

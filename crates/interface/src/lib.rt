@@ -3,7 +3,7 @@
 // A refusal writes into no slice.
 ghost use mathlib.Core.Path.{_≡_};
 ghost use Rattle.definitions.specs.Answers.{judgementValues, quotientTestValues, uniformityValues, pageValues, pointsValues, openingValues, fileValues};
-ghost use Rattle.definitions.specs.Calls.{judgement, quotientTest, uniformity, pageAnswer, pageSlice, pointsAnswer, pointsSlice};
+ghost use Rattle.definitions.specs.Calls.{judgement, quotientTest, uniformity, counted, pageAnswer, pageSlice, pointsAnswer, pointsSlice};
 ghost use Rattle.definitions.specs.Catalogue.{opening};
 ghost use Rattle.definitions.specs.Writing.{fileAnswer, fileBuffer};
 ghost use Rattle.results.specs.Results.{judgementResult, quotientsResult, tValueResult, pageResult, pointsResult};
@@ -66,6 +66,19 @@ pub extern "C" fn fenyurka_t_value(degree: u32, p: u32, q: u32, dimension: u32) 
     ensures { λ r. ⌜ r ≡ tValueResult (uniformityValues (uniformity degree p q dimension)) ⌝ }
 {
     results::t_value(net::t_value(degree, p, q, dimension))
+}
+
+// The same by the plain counter, for degrees 2 to 8.
+#[no_mangle]
+pub extern "C" fn fenyurka_count_t_value(
+    degree: u32,
+    p: u32,
+    q: u32,
+    dimension: u32,
+) -> FenyurkaTValue
+    ensures { λ r. ⌜ r ≡ tValueResult (uniformityValues (counted degree p q dimension)) ⌝ }
+{
+    results::t_value(counter::count_t_value(degree, p, q, dimension))
 }
 
 // The first rows of a ranked list: how many, and whether a further row exists.

@@ -2,12 +2,16 @@
 ghost use mathlib.Core.Path.{_≡_};
 ghost use mathlib.Core.Bool.{_&&_};
 ghost use lib.Dec.{leb};
+ghost use Rattle.definitions.specs.Calls.{countedDegree};
 ghost use Rattle.definitions.specs.Generator.{lawfulDegree, lawfulFloor};
 ghost use Rattle.definitions.specs.Ranking.{lawfulTop, lawfulDimension};
 
 pub const LEAST_DEGREE: u32 = 2;
 
 pub const LARGEST_DEGREE: u32 = 16;
+
+// The largest degree of the plain counter.
+pub const LARGEST_COUNTED: u32 = 8;
 
 pub const LEAST_TOP: u32 = 3;
 
@@ -37,6 +41,12 @@ pub fn is_lawful_degree(degree: u32) -> bool
     ensures { λ r. ⌜ r ≡ lawfulDegree degree ⌝ }
 {
     between(degree, LEAST_DEGREE, LARGEST_DEGREE)
+}
+
+pub fn is_counted_degree(degree: u32) -> bool
+    ensures { λ r. ⌜ r ≡ countedDegree degree ⌝ }
+{
+    between(degree, LEAST_DEGREE, LARGEST_COUNTED)
 }
 
 pub fn is_lawful_top(top: u32) -> bool

@@ -17,8 +17,9 @@ use Rattle.number_laws.specs.Truth.{truth-equal}
 use Rattle.number_laws.specs.Count.{count-ext, count-permute}
 use Rattle.polynomial_laws.specs.Degree.{HasDegree, degree-unique, positive}
 use Rattle.polynomial_laws.specs.Product.{one-prod, prod-one, prod-comm, prod-factors}
-use Rattle.polynomial_laws.specs.Division.{rem-lt, rem-small, rem-prod, rem-prod-left, rem-prod-right}
+use Rattle.polynomial_laws.specs.Division.{rem-small, rem-prod, rem-prod-left, rem-prod-right}
 use Rattle.polynomial_laws.specs.Power.{power-zero, power-suc, power-add}
+use Rattle.net_laws.specs.Point.{coordinate-lt}
 use Rattle.net_laws.specs.Net.{total, Box, none, more, Net, isNet-net}
 
 -- ---- shares and boxes in reverse order
@@ -50,10 +51,6 @@ module _ (p : ℕ) (pos : 0 < p) (q r : ℕ) (inverse : rem (prod q r) p ≡ rem
       ap (λ (z : ℕ). rem z p) paired
       ∙ sym (rem-prod p pos (prod q r) (prod (power q j) (power r j)))
       ∙ rw (inverse, powers-cancel j) (rem-prod p pos 1 1 ∙ ap (λ (z : ℕ). rem z p) (one-prod 1))
-
-  coordinate-lt : (n h : ℕ) → coordinate p q n h < 2 ^ degree p
-  unfolding coordinate
-  coordinate-lt n h = rem-lt p pos (prod h (power q n))
 
   coordinate-back : (k j h : ℕ) → coordinate p r j (coordinate p q (k + j) h) ≡ coordinate p q k h
   unfolding coordinate
@@ -93,7 +90,7 @@ module _ (p : ℕ) (pos : 0 < p) (q r : ℕ) (inverse : rem (prod q r) p ≡ rem
   unfolding inBox
   inverse-box {ds} {rs} b =
       let n = length ds - 1 in
-      sym (count-permute (2 ^ degree p) (coordinate p q n) (λ h l. coordinate-lt n h)
+      sym (count-permute (2 ^ degree p) (coordinate p q n) (λ h l. coordinate-lt p pos q n h)
       (λ h k l l′ e. sym (point-back n h l) ∙ ap (coordinate p r n) e ∙ point-back n k l′) (inBox p r 0 ds rs))
       ∙ count-ext (2 ^ degree p) _ _ (λ h l. sym (and-true _) ∙ inBox-onto b none 0 n h (omega arith))
 

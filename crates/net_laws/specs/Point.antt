@@ -42,9 +42,15 @@ module _ (p : ℕ) (pos : 0 < p) where
   digitRow-power q i l = rw (power-zero, prod-one) (rem-small p pos (2 ^ i) (pow-lt l))
 
   -- ---- the digits
-  pub leading-none : (q j h : ℕ) → leading p 0 (coordinate p q j h) ≡ 0
+  pub coordinate-lt : (q j h : ℕ) → coordinate p q j h < 2 ^ degree p
   unfolding coordinate
-  leading-none q j h = Leading.leading-none p pos (rem (prod h (power q j)) p) (rem-lt p pos (prod h (power q j)))
+  coordinate-lt q j h = rem-lt p pos (prod h (power q j))
+
+  pub leading-lt : (q j d h : ℕ) → leading p d (coordinate p q j h) < 2 ^ d
+  leading-lt q j d h = Leading.leading-lt p pos (coordinate p q j h) (coordinate-lt q j h) d
+
+  pub leading-none : (q j h : ℕ) → leading p 0 (coordinate p q j h) ≡ 0
+  leading-none q j h = Leading.leading-none p pos (coordinate p q j h) (coordinate-lt q j h)
 
   digitRow-prod : (q j i h : ℕ) → rem (prod (digitRow p q j i) h) p ≡ rem (coordinate p q j h * 2 ^ i) p
   unfolding digitRow coordinate

@@ -10,6 +10,7 @@ use lib.Dec.{leb}
 use lib.Pow.{pow-lt, pow-mono}
 use borrow.Author.Tests.{leb-true, le-leb}
 use Rattle.definitions.specs.Generator.{leastDegree, largestDegree, lawfulDegree}
+use Rattle.definitions.specs.Calls.{largestCounted, countedDegree}
 use Rattle.definitions.specs.Ranking.{leastTop, largestTop, lawfulTop, lawfulDimension}
 
 -- x lies between two bounds, both included.
@@ -26,6 +27,10 @@ between-is least most x = (
 abbrev pub LawfulDegree : ℕ → Type 0
 LawfulDegree m = Between leastDegree largestDegree m
 
+-- The degrees that are counted.
+abbrev pub CountedDegree : ℕ → Type 0
+CountedDegree m = Between leastDegree largestCounted m
+
 abbrev pub LawfulTop : ℕ → Type 0
 LawfulTop top = Between leastTop largestTop top
 
@@ -34,6 +39,12 @@ LawfulDimension s = Between 1 largestTop s
 
 pub lawfulDegree-is : (m : ℕ) → (lawfulDegree m ≡ true) ↔ LawfulDegree m
 lawfulDegree-is m = between-is leastDegree largestDegree m
+
+pub countedDegree-is : (m : ℕ) → (countedDegree m ≡ true) ↔ CountedDegree m
+countedDegree-is m = between-is leastDegree largestCounted m
+
+pub counted-lawful : {m : ℕ} → CountedDegree m → LawfulDegree m
+counted-lawful h = record { low = h .low; high = omega (arith, h .high) }
 
 pub lawfulTop-is : (top : ℕ) → (lawfulTop top ≡ true) ↔ LawfulTop top
 lawfulTop-is top = between-is leastTop largestTop top

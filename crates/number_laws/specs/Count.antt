@@ -25,6 +25,15 @@ count-every (suc n) = omega (arith, count-every n)
 pub count-all : (n : ℕ) (test : ℕ → Bool) → ((i : ℕ) → i < n → test i ≡ true) → count n test ≡ n
 count-all n test all = count-ext n test (λ i. true) all ∙ count-every n
 
+bit-most : (b : Bool) → bit b ≤ 1
+bit-most true = omega arith
+bit-most false = omega arith
+
+pub count-most : (n : ℕ) (test : ℕ → Bool) → count n test ≤ n
+unfolding count
+count-most zero test = omega arith
+count-most (suc n) test = omega (arith, bit-most (test n), count-most n test)
+
 bit-split : (b c : Bool) → bit (b && c) + bit (b && not c) ≡ bit b
 bit-split false c = refl
 bit-split true false = refl

@@ -1,5 +1,5 @@
 -- Which elements `numbers`, `keep`, `map` and `join` have, and that they have each once where their parts do.
--- Each law by the recursion of the list; a list without repetition is told by its first element and its tail.
+-- Each law by the recursion of the list; a list without repetition is told by its first element and its tail. And one element set.
 -- Assumes nothing.
 use mathlib.Core.Path.{_≡_, refl, sym, ap, _∙_, subst}
 use mathlib.Core.Logic.{_⊎_, inl, inr, ∥∥₁-elim}
@@ -12,7 +12,8 @@ use Prim.Native.Nat.{ℕ, zero, suc, _+_, _≤_, _<_}
 use native.Mathlib.Omega.{arith}
 use native.Mathlib.Decide.{ℕ-discrete}
 use lib.Dec.{eqb}
-use lib.ListN.{length}
+use lib.ListN.{length, getD, set}
+use lib.Seq.{getD-set-same, getD-set-other}
 use borrow.Author.Tests.{eqb-true}
 use Rattle.definitions.specs.Number.{numbers, putIf, keep, all, join}
 
@@ -148,3 +149,12 @@ module _ {X Y : Type 0} (f : X → List Y) where
       (each z (List·Memᴰ·head refl))
       (join-map-once l (nodup-tail n) (λ x m. each x (List·Memᴰ·tail m)) apart)
       (λ y u v. let r = join-map-out l v in nodup-fresh n (Memᴰ·cast (apart z (r .0) y u (r .2)) (r .1)))
+
+-- What held of every element still does once one is set.
+pub set-each : (Q : ℕ → ℕ → Type 0) (xs : List ℕ) (j v : ℕ) → j < length xs → Q j v → (i : ℕ) → ((i ≡ j → ⊥) → Q i (getD xs i 0))
+    → Q i (getD (set xs j v) i 0)
+set-each Q xs j v fits new i old = at (ℕ-discrete i j)
+  where
+    at : Dec (i ≡ j) → Q i (getD (set xs j v) i 0)
+    at (yes e) = rw (e, getD-set-same xs j v 0 fits) new
+    at (no e) = rw (getD-set-other xs j i v 0 e) (old e)

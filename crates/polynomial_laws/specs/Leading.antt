@@ -1,11 +1,12 @@
--- The leading digits of y/p, one more at a time: the next digit stands at x^m of twice the rest, as long division has it. In y they are additive, and
--- so is the residue of a product in its factor. As many digits as p's degree tell the y apart: they are 0 for y = 0 alone.
+-- The leading digits of y/p, one more at a time: the next digit stands at x^m of twice the rest, as long division has it. So the first of more digits
+-- are what a shift leaves of them. In y they are additive, and so is the residue of a product in its factor. As many digits as p's degree tell the y
+-- apart: they are 0 for y = 0 alone.
 -- Assumes nothing.
 use mathlib.Core.Path.{_≡_, refl, sym, ap, ap₂, _∙_}
-use Prim.Native.Nat.{ℕ, zero, suc, _+_, _*_, _/_, _^_, _≤_, _<_}
-use native.Mathlib.Nat.{add-zero, mul-one, mul-comm, zero-mul, pow-zero, pow-suc, pow-succ'}
+use Prim.Native.Nat.{ℕ, zero, suc, _+_, _-_, _*_, _/_, _^_, _≤_, _<_}
+use native.Mathlib.Nat.{add-zero, add-suc, div-one, mul-one, mul-comm, zero-mul, pow-zero, pow-suc, pow-succ'}
 use native.Mathlib.Omega.{arith}
-use lib.Pow.{pow-mono}
+use lib.Pow.{pow-mono, shr-shr}
 use Rattle.definitions.specs.Polynomial.{_⊕_, degree, prod, quot, rem}
 use Rattle.definitions.specs.Points.{leading}
 use Rattle.polynomial_laws.specs.Additive.{Additive}
@@ -41,6 +42,21 @@ module _ (p : ℕ) (pos : 0 < p) where
 
   digit-lt : (d y : ℕ) → 2 * rem (y * 2 ^ d) p / 2 ^ degree p < 2
   digit-lt d y = rw (← add-zero (2 * rem (y * 2 ^ d) p)) (next-digit p pos (y * 2 ^ d) 0 (omega arith))
+
+  -- ---- the first of more digits
+  leading-half : (d y : ℕ) → leading p (suc d) y / 2 ≡ leading p d y
+  leading-half d y = omega (arith, leading-more p d y, digit-lt d y)
+
+  leading-shift : (d k y : ℕ) → leading p (d + k) y / 2 ^ k ≡ leading p d y
+  leading-shift d zero y = rw (add-zero, pow-zero, div-one)
+  leading-shift d (suc k) y =
+      let e : 1 + k ≡ suc k = omega arith in
+      rw (add-suc, ← e) (sym (shr-shr (leading p (suc (d + k)) y) 1 k) ∙ rw (leading-half (d + k) y) (leading-shift d k y))
+
+  pub leading-front : (n d y : ℕ) → d ≤ n → leading p n y / 2 ^ (n - d) ≡ leading p d y
+  leading-front n d y l =
+      let e : d + (n - d) ≡ n = omega arith in
+      rw e at (leading-shift d (n - d) y)
 
   -- ---- of a residue
   module _ (y : ℕ) (residue : y < 2 ^ degree p) where

@@ -9,7 +9,7 @@ use Rattle.definitions.specs.Ranking.{lawfulDimension}
 use Rattle.definitions.specs.declared.Uniformity.the-variants.{Value}
 use Rattle.fraction_laws.specs.WellFormed.{WellFormed, wellFormed-is}
 use Rattle.number_laws.specs.Bounds.{LawfulDegree, lawfulDegree-is, lawfulDimension-is}
-use Rattle.net.proofs.AnswerLaws.{wrong-degree, wrong-dimension, ill-formed, measured}
+use Rattle.answer_laws.specs.Measured.{wrong-degree, wrong-dimension, ill-formed, measured}
 use Rattle.net.proofs.t_value.Statement.{statement}
 use Rattle.net.proofs.t_value.Tie as tie
 

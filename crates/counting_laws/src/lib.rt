@@ -1,0 +1,1 @@
+// Laws of points counted box by box; no functions.
