@@ -9,11 +9,11 @@ use Rattle.definitions.specs.Listing.{newline, lineNumbers, letters, dec
 unfoldable pub bothText : ℕ → ℕ → List ℕ
 bothText quick count = letters "quick " ++ decimal quick ++ letters " count " ++ decimal count ++ newline ∷ []
 
--- Both are the t-value of the definition; or the refusal of the plain counter.
+-- For a pair in a dimension: both are its t-value; or the refusal of the plain counter.
 unfoldable pub pairText : ℕ → ℕ → ℕ → ℕ → List ℕ
 pairText m p q s = unless (counting m p q s) (λ (n : Refusal). refusedText (refusalNumber n)) (bothText (tValue m p q s) (tValue m p q s))
 
--- A line has degree, p, q and dimension, these four.
+-- A line has degree, p, q and dimension, exactly these four.
 unfoldable pub recountText : List ℕ → List ℕ
 recountText [] = refusedText unreadable
 recountText (m ∷ []) = refusedText unreadable
