@@ -115,8 +115,8 @@ FenyurkaTValue fenyurka_t_value(uint32_t degree, uint32_t p, uint32_t q, uint32_
 
 /*
  * The same t-value for degrees 2 to 8, found by counting: all 2^m points are built, and for every way to share digits the points in each
- * box are counted, as the sentence above says it. No linear algebra is used (crates/counter/src/lib.rt is one page). Proved: where the
- * degree is 2 to 8, the result equals that of fenyurka_t_value. Much slower: up to 10 million instructions (docs/SPEED.md).
+ * box are counted, as the sentence above says it. No linear algebra is used (crates/counter and crates/box_counts are short). Proved:
+ * where the degree is 2 to 8, the result equals that of fenyurka_t_value. Much slower: up to 10.1 million instructions (docs/SPEED.md).
  * Refusals: 1 (here where the degree is not 2 to 8), 2, 3.
  */
 FenyurkaTValue fenyurka_count_t_value(uint32_t degree, uint32_t p, uint32_t q, uint32_t dimension);
