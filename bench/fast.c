@@ -1,7 +1,7 @@
 /* The header's functions in plain C made fast: what the library's figures are set beside. Nothing here is proved; tests/c
    compares it with the reference as it does the library. Quick order tests, one walk down the tree for a page with the slice as workspace,
-   and for t the lightest linear relation between rows x^i q^j mod p, each dimension starting where the one before ended; and once more t by
-   counting points in boxes. */
+   and for t the lightest linear relation between rows x^i q^j mod p, each dimension starting where the one before ended; the sum of
+   resolution gaps digit by digit, over the same rows; and once more t by counting points in boxes. */
 #include "fast.h"
 #include "fenyurka.h"
 
@@ -268,6 +268,47 @@ FenyurkaTValue fenyurka_t_value(uint32_t degree, uint32_t p, uint32_t q, uint32_
     return (FenyurkaTValue){.t = t};
 }
 
+/* ---- the sum of resolution gaps */
+
+/* The largest dimension up to `most` in which the first l rows of every coordinate are free. Those of coordinate 0 are the powers of x
+   below x^l, so of any other row only what is from x^l on counts. */
+static uint32_t free_dimensions(uint32_t p, const uint32_t *powers, uint32_t l, uint32_t most)
+{
+    uint32_t taken[MOST], count = 0;
+    for (uint32_t s = 1; s < most; s++) {
+        uint32_t row = powers[s];
+        for (uint32_t i = 0; i < l; i++, row = shift(p, row)) {
+            uint32_t v = row;
+            for (uint32_t k = 0; k < count; k++)
+                v = (v ^ taken[k]) < v ? v ^ taken[k] : v;
+            if (v >> l == 0)
+                return s;
+            taken[count++] = v;
+        }
+    }
+    return most;
+}
+
+/* The sum over s of floor(m/s) - l_s is the sum over l of floor(m/l) - s_l; where l is above m/2 nothing is missing. */
+static uint32_t sum_of_gaps(uint32_t m, uint32_t p, uint32_t q)
+{
+    uint32_t powers[MOST] = {1}, sum = 0;
+    for (uint32_t s = 1; s < m; s++)
+        powers[s] = times(m, p, powers[s - 1], q);
+    for (uint32_t l = 1; l <= m / 2; l++)
+        sum += m / l - free_dimensions(p, powers, l, m / l);
+    return sum;
+}
+
+FenyurkaGaps fenyurka_sum_of_gaps(uint32_t degree, uint32_t p, uint32_t q)
+{
+    if (degree - 2 > MOST - 2)
+        return (FenyurkaGaps){.refusal = 1};
+    if (!well_formed(degree, p, q))
+        return (FenyurkaGaps){.refusal = 3};
+    return (FenyurkaGaps){.delta = sum_of_gaps(degree, p, q)};
+}
+
 /* ---- t-values by counting */
 
 enum { MOST_COUNTED = 8, MOST_POINTS = 1 << MOST_COUNTED };
@@ -334,18 +375,19 @@ FenyurkaTValue fenyurka_count_t_value(uint32_t degree, uint32_t p, uint32_t q, u
 
 /* ---- pages */
 
+/* In a row the numbers that rank it stand at 3 .. last: t(3) .. t(top), then the sum of gaps where rows have it. */
 struct page {
-    uint32_t m, top, floor, after, position[9], *rows, more;
+    uint32_t m, top, last, floor, after, position[FENYURKA_LONGEST_ROW], *rows, more;
     size_t count, room;
 };
 
-/* Compares the first `known` t-values, and p and q where all are known: below, equal or above 0. */
-static int compare(const uint32_t *a, const uint32_t *b, uint32_t known, uint32_t top)
+/* Compares the ranks up to `known`, and p and q where all are known: below, equal or above 0. */
+static int compare(const uint32_t *a, const uint32_t *b, uint32_t known, uint32_t last)
 {
-    for (uint32_t s = 3; s <= known; s++)
-        if (a[s] != b[s])
-            return a[s] < b[s] ? -1 : 1;
-    if (known < top)
+    for (uint32_t i = 3; i <= known; i++)
+        if (a[i] != b[i])
+            return a[i] < b[i] ? -1 : 1;
+    if (known < last)
         return 0;
     if (a[0] != b[0])
         return a[0] < b[0] ? -1 : 1;
@@ -354,32 +396,38 @@ static int compare(const uint32_t *a, const uint32_t *b, uint32_t known, uint32_
 
 static void insert(struct page *page, const uint32_t *row)
 {
-    size_t width = page->top + 1, i = page->count;
+    size_t width = page->last + 1, i = page->count;
     if (page->count == page->room)
         page->more = 1, i--;
     else
         page->count++;
-    for (; i > 0 && compare(row, page->rows + (i - 1) * width, page->top, page->top) < 0; i--)
+    for (; i > 0 && compare(row, page->rows + (i - 1) * width, page->last, page->last) < 0; i--)
         memcpy(page->rows + i * width, page->rows + (i - 1) * width, width * sizeof row[0]);
     memcpy(page->rows + i * width, row, width * sizeof row[0]);
+}
+
+/* The next rank of the pair that is searched. */
+static uint32_t next_rank(const struct page *page, struct search *s)
+{
+    return s->last < page->top ? next_t(s) : sum_of_gaps(s->m, s->p, s->q);
 }
 
 static void leaf(struct page *page, uint32_t p, uint32_t q)
 {
     struct search s;
-    uint32_t row[9] = {p, q};
-    const uint32_t *worst = page->rows + (page->room - 1) * (page->top + 1);
+    uint32_t row[FENYURKA_LONGEST_ROW] = {p, q};
+    const uint32_t *worst = page->rows + (page->room - 1) * (page->last + 1);
     if (!primitive(page->m, p) || !of_full_order(page->m, p, q) || !reaches_floor(page->m, p, q, page->floor))
         return;
     begin(&s, page->m, p, q, 2);
     next_t(&s);
-    for (uint32_t d = 3; d <= page->top; d++) {
+    for (uint32_t i = 3; i <= page->last; i++) {
         int side;
-        row[d] = next_t(&s);
-        side = page->after ? compare(row, page->position, d, page->top) : 1;
-        if (side < 0 || (side == 0 && d == page->top))
+        row[i] = next_rank(page, &s);
+        side = page->after ? compare(row, page->position, i, page->last) : 1;
+        if (side < 0 || (side == 0 && i == page->last))
             return;
-        if (page->count == page->room && compare(row, worst, d, page->top) > 0) {
+        if (page->count == page->room && compare(row, worst, i, page->last) > 0) {
             page->more = 1;
             return;
         }
@@ -399,7 +447,7 @@ static void walk(struct page *page, uint32_t left, uint32_t f1, uint32_t f0)
 
 static FenyurkaPage fill(struct page *page, uint32_t *rows, size_t length)
 {
-    size_t width = page->top + 1;
+    size_t width = page->last + 1;
     if (length < width)
         return (FenyurkaPage){.refusal = 7};
     page->rows = rows;
@@ -415,9 +463,14 @@ static uint32_t list_refusal(FenyurkaList list)
     return list.degree - 2 > MOST - 2 ? 1 : list.top - 3 > 5 ? 2 : list.floor > MOST_FLOOR ? 12 : 0;
 }
 
+static struct page page_of(FenyurkaList list)
+{
+    return (struct page){.m = list.degree, .top = list.top, .last = list.top + (list.gaps != 0), .floor = list.floor};
+}
+
 FenyurkaPage fenyurka_first_page(FenyurkaList list, uint32_t *rows, size_t rows_length)
 {
-    struct page page = {.m = list.degree, .top = list.top, .floor = list.floor};
+    struct page page = page_of(list);
     uint32_t refusal = list_refusal(list);
     if (refusal != 0)
         return (FenyurkaPage){.refusal = refusal};
@@ -426,17 +479,20 @@ FenyurkaPage fenyurka_first_page(FenyurkaList list, uint32_t *rows, size_t rows_
 
 FenyurkaPage fenyurka_page_after(FenyurkaList list, uint32_t p, uint32_t q, uint32_t *rows, size_t rows_length)
 {
-    struct page page = {.m = list.degree, .top = list.top, .floor = list.floor, .after = 1, .position = {p, q}};
+    struct page page = page_of(list);
     struct search s;
     uint32_t refusal = list_refusal(list);
     if (refusal == 0)
         refusal = refusal_of(list.degree, list.floor, p, q);
     if (refusal != 0)
         return (FenyurkaPage){.refusal = refusal, .quotient_degree = degree_told(refusal, p, q)};
+    page.after = 1;
+    page.position[0] = p;
+    page.position[1] = q;
     begin(&s, list.degree, p, q, 2);
     next_t(&s);
-    for (uint32_t d = 3; d <= list.top; d++)
-        page.position[d] = next_t(&s);
+    for (uint32_t i = 3; i <= page.last; i++)
+        page.position[i] = next_rank(&page, &s);
     return fill(&page, rows, rows_length);
 }
 

@@ -22,13 +22,13 @@ function growth(now, before) {
     return before > 0 ? sprintf("%.2f", now / before) : "-"
 }
 END {
-    printf "%-44s %6s %14s %14s %7s %12s %8s\n", "instructions", "degree", "ours", "plain C", "ratio", "growth: ours", "plain C"
+    printf "%-46s %6s %14s %14s %7s %12s %8s\n", "instructions", "degree", "ours", "plain C", "ratio", "growth: ours", "plain C"
     for (k = 1; k <= kinds; k++)
         for (m = 8; m <= 16; m += 2) {
             w = order[k]
             if (!((w, m) in plain))
                 continue
-            printf "%-44s %6d %14.0f %14.0f %7.2f %12s %8s\n", m == 8 ? w : "", m, ours[w, m], plain[w, m], ours[w, m] / plain[w, m],
+            printf "%-46s %6d %14.0f %14.0f %7.2f %12s %8s\n", m == 8 ? w : "", m, ours[w, m], plain[w, m], ours[w, m] / plain[w, m],
                 growth(ours[w, m], ours[w, m - 2]), growth(plain[w, m], plain[w, m - 2])
         }
 }

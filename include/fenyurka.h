@@ -23,7 +23,11 @@
  *   - a non-NULL pointer, also for length 0 (nothing is read or written then);
  *   - a writable buffer that overlaps no other buffer of the call.
  *
- * Initialise FenyurkaList by field names: FenyurkaList list = {.degree = 10, .top = 5, .floor = 32}. A floor that is not named is 0.
+ * Gaps. Document 001 reports a second figure of a pair beside its t-values: the sum of resolution gaps (Delta), see fenyurka_sum_of_gaps.
+ * The rows of a list have it as their last number where the list asks for it; it then ranks after the t-values and before p and q.
+ *
+ * Initialise FenyurkaList by field names: FenyurkaList list = {.degree = 10, .top = 5, .floor = 32}. A field that is not named is 0: no
+ * floor, rows without the sum of gaps.
  * Later versions may add fields to structs; programs written in this way then have to be recompiled, and not changed.
  *
  * No function allocates memory, keeps a pointer, prints or has state, so calls with different buffers may run in parallel.
@@ -61,17 +65,18 @@ enum fenyurka_refusal {
     FENYURKA_FILE_TOO_LONG = 14        /* the file would be longer than the buffer */
 };
 
-/* The most numbers that a row has: p, q, the step, t(3) .. t(8). */
-#define FENYURKA_LONGEST_ROW 9
+/* The most numbers that a row has: p, q, the step, t(3) .. t(8), the sum of gaps. */
+#define FENYURKA_LONGEST_ROW 10
 
-/* The most bytes that a file of fenyurka_write has: all degrees, each with T = 8, floor 0 (compared by tests/c, not proved). */
-#define FENYURKA_LONGEST_FILE 92041
+/* The most bytes that a file of fenyurka_write has: all degrees, T = 8, the sum of gaps, floor 0 (compared by tests/c, not proved). */
+#define FENYURKA_LONGEST_FILE 99701
 
 /* Which ranked list is meant. */
 typedef struct FenyurkaList {
     uint32_t degree; /* 2 to 16 */
     uint32_t top;    /* the top dimension T, 3 to 8 */
     uint32_t floor;  /* the smallest step that a pair of the list may have, 0 to 32 */
+    uint32_t gaps;   /* whether the rows have the sum of gaps: 0 no, any other number yes */
 } FenyurkaList;
 
 typedef struct FenyurkaJudgement {
@@ -121,6 +126,19 @@ FenyurkaTValue fenyurka_t_value(uint32_t degree, uint32_t p, uint32_t q, uint32_
  */
 FenyurkaTValue fenyurka_count_t_value(uint32_t degree, uint32_t p, uint32_t q, uint32_t dimension);
 
+typedef struct FenyurkaGaps {
+    uint32_t refusal;
+    uint32_t delta; /* the sum of resolution gaps */
+} FenyurkaGaps;
+
+/*
+ * The sum of resolution gaps of the same point sets, in dimensions s = 1 .. m: the sum of floor(m/s) - l_s, where l_s is the largest l in
+ * 1 .. m for which the 2^(s l) congruent cubes, l leading digits in each coordinate, hold equally many points, and 0 if there is none.
+ * For every well-formed pair, accepted by fenyurka_judge or not.
+ * Refusals: 1, 3.
+ */
+FenyurkaGaps fenyurka_sum_of_gaps(uint32_t degree, uint32_t p, uint32_t q);
+
 typedef struct FenyurkaPage {
     uint32_t refusal;
     uint32_t quotient_degree; /* refusal 5: the largest degree among the partial quotients, 2 to m; else 0 */
@@ -130,8 +148,9 @@ typedef struct FenyurkaPage {
 
 /*
  * The first page of a ranked list. The list has all pairs of the degree that fenyurka_judge accepts at the list's floor, ascending by
- * t(3), then t(4), up to t(T), then by p, then by q. A row is T + 1 numbers: p, q, the step, t(3) .. t(T). As many rows are written as
- * fit into the buffer and exist.
+ * t(3), then t(4), up to t(T), then by p, then by q. A row is T + 1 numbers: p, q, the step, t(3) .. t(T). If the list has `gaps`, a row is
+ * T + 2 numbers, the last one the sum of gaps, and rows ascend by it after t(T) and before p. As many rows are written as fit into the
+ * buffer and exist.
  * Each page costs one search over all pairs of the degree, however many rows are written: with T = 8, floor 0 and 50 rows 2.2 million
  * instructions for degree 10 and 306 million for degree 16 (docs/SPEED.md). If you need the whole list, pass a buffer that holds it.
  * Refusals: 1, 2, 12, 7.
@@ -140,8 +159,8 @@ FenyurkaPage fenyurka_first_page(FenyurkaList list, uint32_t *rows, size_t rows_
 
 /*
  * The page after the pair (p, q), which may be any pair of the degree that fenyurka_judge accepts at the list's floor: the last one of
- * the page before, also if that page had another length or another T, or a pair that was on no page. Keep the floor while you walk
- * through a list: with another one the rows are those of another list. Costs as much as the first page.
+ * the page before, also if that page had another length or another T, or a pair that was on no page. Keep floor and `gaps` while you
+ * walk through a list: with others the rows are those of another list. Costs as much as the first page.
  * Refusals: 1, 2, 12, 3, 4, 5, 6, 11, 7.
  */
 FenyurkaPage fenyurka_page_after(FenyurkaList list, uint32_t p, uint32_t q, uint32_t *rows, size_t rows_length);
@@ -167,7 +186,8 @@ typedef struct FenyurkaCatalogue {
 } FenyurkaCatalogue;
 
 /*
- * Checks that the bytes are a catalogue: its contents, the place of every body and the range of every number in every row.
+ * Checks that the bytes are a catalogue: its contents, the place of every body and the range of every number in every row, except the
+ * sum of gaps, which may be any byte.
  * Refusals: 9.
  */
 FenyurkaCatalogue fenyurka_open(const uint8_t *file, size_t file_length);
@@ -175,6 +195,7 @@ FenyurkaCatalogue fenyurka_open(const uint8_t *file, size_t file_length);
 typedef struct FenyurkaBody {
     uint32_t refusal;
     uint32_t top;    /* the top dimension T of the rows */
+    uint32_t gaps;   /* 1 if the rows have the sum of gaps, else 0 */
     uint32_t rows;   /* how many rows the body has, 0 or more */
     size_t offset;   /* where the body begins in the file */
     size_t length;   /* bytes of the body, rows * row_size; all of them lie within the file */
@@ -188,16 +209,16 @@ typedef struct FenyurkaBody {
 FenyurkaBody fenyurka_lookup(const uint8_t *file, size_t file_length, uint32_t degree);
 
 typedef struct FenyurkaRow {
-    size_t count;                           /* how many numbers the row has, T + 1; 0 at the end */
+    size_t count;                           /* how many numbers the row has, T + 1, or T + 2 with the sum of gaps; 0 at the end */
     size_t next;                            /* the place behind the row; at the end the place that was given */
-    uint32_t numbers[FENYURKA_LONGEST_ROW]; /* p with its leading term, q, the step, t(3) .. t(T); 0 behind these */
+    uint32_t numbers[FENYURKA_LONGEST_ROW]; /* the row as a page has it, p with its leading term; 0 behind its numbers */
 } FenyurkaRow;
 
 /*
- * Reads one row of a body. `body` are the bytes that fenyurka_lookup found (file + offset, length), `list` their degree and top
- * dimension; its floor is not used. `place` is a byte offset into the body: 0 for the first row, then `next` of the row before.
+ * Reads one row of a body. `body` are the bytes that fenyurka_lookup found (file + offset, length), `list` their degree, top dimension
+ * and `gaps`; its floor is not used. `place` is a byte offset into the body: 0 for the first row, then `next` of the row before.
  * The end is reached, and count is 0, where `place` is not the start of a whole row, or degree or top dimension is out of range.
- * The numbers are given as they stand in the file; fenyurka_open and fenyurka_lookup check their ranges.
+ * The numbers are given as they stand in the file; fenyurka_open and fenyurka_lookup check their ranges, except that of the sum of gaps.
  */
 FenyurkaRow fenyurka_row(FenyurkaList list, const uint8_t *body, size_t body_length, size_t place);
 
@@ -208,11 +229,12 @@ typedef struct FenyurkaFile {
 
 /*
  * Writes a catalogue of whole ranked lists, which fenyurka_open, fenyurka_lookup and fenyurka_row read. `entries` says which lists:
- * degree, T, degree, T, .., the degrees strictly ascending; `entries_length` counts numbers, two for each list. All lists have the
- * same floor, which the file does not say. A last T that is missing counts as a wrong one. The file goes over the front of the
- * buffer, and the bytes behind it stay; with no entries it is the single byte 0. The same floor and entries always give the same bytes.
- * A file has 1 byte, 8 for each entry and T + 4 for each row. If you do not know its length, pass a longer buffer:
- * FENYURKA_LONGEST_FILE bytes hold every file.
+ * degree, T, degree, T, .., the degrees strictly ascending; `entries_length` counts numbers, two for each list. With T + 16 (19 to 24)
+ * in place of T the rows of that list have the sum of gaps. All lists have the same floor, which the file does not say. A last T that
+ * is missing counts as a wrong one. The file goes over the front of the buffer, and the bytes behind it stay; with no entries it is the
+ * single byte 0. The same floor and entries always give the same bytes.
+ * A file has 1 byte, 8 for each entry and T + 4 for each row, T + 5 for one with the sum of gaps. If you do not know its length, pass a
+ * longer buffer: FENYURKA_LONGEST_FILE bytes hold every file.
  * Costs two searches over all pairs for each entry, one that counts the rows and one that writes them; refusal 14 costs only the
  * first ones, and the refusals before it none.
  * Refusals: 1, 2, 12, 13, 14.

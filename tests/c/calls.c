@@ -2,7 +2,6 @@
    around it. */
 #include "calls.h"
 #include "fenyurka.h"
-#include "reference.h"
 
 #include <inttypes.h>
 #include <stdio.h>
@@ -12,14 +11,15 @@
 
 /* ---- what is compared, and chance */
 
-enum call { JUDGE, QUOTIENTS, T_VALUE, COUNT, FIRST_PAGE, PAGE_AFTER, WALK, POINTS, OPEN, LOOKUP, ROW, END, WRITE, READ_BACK, CALLS };
+enum call { JUDGE, QUOTIENTS, T_VALUE, COUNT, GAPS, FIRST_PAGE, PAGE_AFTER, WALK, POINTS, OPEN, LOOKUP, ROW, END, WRITE, READ_BACK, CALLS };
 static const char *const names[CALLS] = {
-    "judgements", "quotient tests", "t-values",  "t-values counted", "first pages", "pages after a pair", "walks to the end",
-    "points",     "openings",       "lookups",   "rows read",        "ends of bodies", "files",           "files read back",
+    "judgements",         "quotient tests",   "t-values", "t-values counted", "sums of gaps", "first pages",
+    "pages after a pair", "walks to the end", "points",   "openings",         "lookups",      "rows read",
+    "ends of bodies",     "files",            "files read back",
 };
-/* How often each was answered with each number, and how often it differed. */
+/* How often each was answered with each number, how often with rows that have the sum of gaps, and how often any differed. */
 enum { MOST_REFUSAL = 14 };
-static unsigned long answered[CALLS][MOST_REFUSAL + 1], differing;
+static unsigned long answered[CALLS][MOST_REFUSAL + 1], with_gaps[CALLS], differing;
 
 static void same(enum call call, uint32_t answer, int agrees, const uint64_t *asked, int n)
 {
@@ -51,7 +51,7 @@ uint32_t below(uint32_t n)
 }
 
 const uint32_t extremes[EXTREMES] = {
-    0, 1, 2, 3, 4, 5, 7, 8, 9, 11, 15, 16, 17, 18, 31, 32, 33, 63, 64, 65, 255, 256, 65534, 65535, 65536, 131071, 131072,
+    0, 1, 2, 3, 4, 5, 7, 8, 9, 11, 15, 16, 17, 18, 19, 24, 25, 31, 32, 33, 63, 64, 65, 255, 256, 65534, 65535, 65536, 131071, 131072,
     0x7FFFFFFF, 0x80000000, 0xFFFFFFFE, 0xFFFFFFFF,
 };
 
@@ -89,6 +89,12 @@ uint32_t floor_for(uint32_t m, uint32_t p, uint32_t q)
     if (below(2) || reference_judge(m, 0, p, q, &step) != 0 || (step > MOST_FLOOR + 1 && below(8)))
         return draw_floor();
     return step - 1 + below(3);
+}
+
+uint32_t draw_gaps(void)
+{
+    uint32_t kind = below(6);
+    return kind < 3 ? 0 : kind == 3 ? 1 : kind == 4 ? extremes[below(EXTREMES)] : draw();
 }
 
 /* ---- memory that tells: numbers in the midst of others, bytes that end where a page is that nobody may read */
@@ -172,17 +178,39 @@ void try_count(uint32_t m, uint32_t p, uint32_t q, uint32_t dimension)
     SAME(COUNT, refusal, agrees, m, p, q, dimension);
 }
 
-void try_page(uint32_t m, uint32_t top, uint32_t floor, int after, uint32_t p, uint32_t q, size_t length)
+void try_gaps(uint32_t m, uint32_t p, uint32_t q)
+{
+    uint32_t sum = 0, refusal = reference_gaps(m, p, q, &sum);
+    FenyurkaGaps got = fenyurka_sum_of_gaps(m, p, q);
+    SAME(GAPS, refusal, got.refusal == refusal && got.delta == sum, m, p, q);
+}
+
+/* Both ways of the reference. */
+void try_cubes(uint32_t m, uint32_t p, uint32_t q)
+{
+    uint32_t sum = reference_gaps_by_counting(m, p, q);
+    FenyurkaGaps got = fenyurka_sum_of_gaps(m, p, q);
+    SAME(GAPS, 0, got.refusal == 0 && got.delta == sum && reference_gaps_by_rank(m, p, q) == sum, m, p, q);
+}
+
+/* The list as the library has it. */
+static FenyurkaList asked_for(struct selection l)
+{
+    return (FenyurkaList){.degree = l.degree, .top = l.top, .floor = l.floor, .gaps = l.gaps};
+}
+
+void try_page(struct selection l, int after, uint32_t p, uint32_t q, size_t length)
 {
     const uint32_t *rows = arena;
     uint32_t more = 0, *slice = slice_of(length);
     size_t count = 0;
-    uint32_t refusal = reference_page(m, top, floor, after, p, q, length, &rows, &count, &more);
-    FenyurkaList list = {.degree = m, .top = top, .floor = floor};
-    FenyurkaPage got = after ? fenyurka_page_after(list, p, q, slice, length) : fenyurka_first_page(list, slice, length);
-    int agrees = got.refusal == refusal && got.quotient_degree == carried_by(refusal, m, p, q) && got.more == more && got.count == count
-                 && slice_is(rows, refusal ? 0 : count * (top + 1), length);
-    SAME(after ? PAGE_AFTER : FIRST_PAGE, refusal, agrees, m, top, floor, p, q, length);
+    uint32_t refusal = reference_page(l, after, p, q, length, &rows, &count, &more);
+    FenyurkaPage got = after ? fenyurka_page_after(asked_for(l), p, q, slice, length) : fenyurka_first_page(asked_for(l), slice, length);
+    int agrees = got.refusal == refusal && got.quotient_degree == carried_by(refusal, l.degree, p, q) && got.more == more
+                 && got.count == count && slice_is(rows, refusal ? 0 : count * row_width(l), length);
+    enum call call = after ? PAGE_AFTER : FIRST_PAGE;
+    with_gaps[call] += l.gaps != 0;
+    SAME(call, refusal, agrees, l.degree, l.top, l.floor, l.gaps, p, q, length);
 }
 
 void try_points(uint32_t m, uint32_t floor, uint32_t p, uint32_t q, uint32_t first, size_t length)
@@ -210,26 +238,30 @@ void try_lookup(const uint8_t *bytes, size_t length, uint32_t m)
     uint32_t refusal = reference_lookup(bytes, length, m, &body);
     const uint8_t *file = fenced(0, bytes, length);
     FenyurkaBody got = fenyurka_lookup(file, length, m);
-    int agrees = got.refusal == refusal && got.top == body.top && got.rows == body.rows && got.row_size == body.row_size
-                 && got.offset == body.offset && got.length == body.length && memcmp(file, bytes, length) == 0;
+    int agrees = got.refusal == refusal && got.top == body.top && got.gaps == body.gaps && got.rows == body.rows
+                 && got.row_size == body.row_size && got.offset == body.offset && got.length == body.length
+                 && memcmp(file, bytes, length) == 0;
+    with_gaps[LOOKUP] += body.gaps;
     SAME(LOOKUP, refusal, agrees, length, m);
 }
 
-/* At any floor, as a reader does not use it. */
-int try_row(const uint8_t *bytes, size_t length, uint32_t m, uint32_t top, size_t place)
+int try_row(const uint8_t *bytes, size_t length, struct selection l, size_t place)
 {
-    uint32_t row[LONGEST_ROW] = {0}, floor = draw_floor();
+    uint32_t row[LONGEST_ROW] = {0};
     size_t next = place;
     const uint8_t *body = fenced(0, bytes, length);
-    int found = reference_row(bytes, length, m, top, place, row, &next);
-    FenyurkaRow got = fenyurka_row((FenyurkaList){.degree = m, .top = top, .floor = floor}, body, length, place);
-    int agrees = got.count == (found ? top + 1 : 0) && got.next == next && memcmp(got.numbers, row, sizeof row) == 0
+    int found = reference_row(bytes, length, l, place, row, &next);
+    l.floor = draw_floor();
+    FenyurkaRow got = fenyurka_row(asked_for(l), body, length, place);
+    int agrees = got.count == (found ? row_width(l) : 0) && got.next == next && memcmp(got.numbers, row, sizeof row) == 0
                  && memcmp(body, bytes, length) == 0;
-    SAME(found ? ROW : END, 0, agrees, length, m, top, floor, place);
+    enum call call = found ? ROW : END;
+    with_gaps[call] += l.gaps != 0;
+    SAME(call, 0, agrees, length, l.degree, l.top, l.floor, l.gaps, place);
     return found;
 }
 
-/* Whether the library's own calls read a file that was written for these numbers as the same degrees, T and rows. */
+/* Whether the library's own calls read a file that was written for these numbers as the same degrees, T, kinds and rows. */
 static int read_back(uint32_t floor, const uint32_t *numbers, size_t count, const uint8_t *file, size_t length)
 {
     FenyurkaCatalogue opened = fenyurka_open(file, length);
@@ -243,11 +275,12 @@ static int read_back(uint32_t floor, const uint32_t *numbers, size_t count, cons
             agrees &= body.refusal == 10;
             continue;
         }
-        uint32_t top = numbers[i + 1], width = top + 1;
-        const uint32_t *list = reference_list(m, top, floor, &all);
-        agrees &= body.refusal == 0 && body.top == top && body.rows == all;
+        struct selection l = selection_of(m, numbers[i + 1], floor);
+        uint32_t width = row_width(l);
+        const uint32_t *list = reference_list(l, &all);
+        agrees &= body.refusal == 0 && body.top == l.top && body.gaps == l.gaps && body.rows == all;
         for (size_t r = 0; agrees && r <= all; r++) {
-            FenyurkaRow row = fenyurka_row((FenyurkaList){.degree = m, .top = top}, file + body.offset, body.length, place);
+            FenyurkaRow row = fenyurka_row(asked_for(l), file + body.offset, body.length, place);
             agrees = row.count == (r < all ? width : 0) && memcmp(row.numbers, list + r * width, row.count * sizeof list[0]) == 0;
             place = row.next;
         }
@@ -274,27 +307,31 @@ void try_write(uint32_t floor, const uint32_t *numbers, size_t count, size_t len
     int agrees = got.refusal == refusal && got.length == file_length && memcmp(buffer - AROUND, marked, AROUND + length) == 0
                  && memcmp(entries, numbers, size) == 0;
     uint64_t asked[2 + 2 * MOST_ENTRIES + 1] = {length, floor};
-    int n = 2;
-    for (size_t i = 0; i < count && i <= 2 * MOST_ENTRIES; i++)
+    int n = 2, gaps = 0;
+    for (size_t i = 0; i < count && i <= 2 * MOST_ENTRIES; i++) {
         asked[n++] = numbers[i];
+        gaps |= i % 2 && numbers[i] >= GAPS_MARK;
+    }
+    with_gaps[WRITE] += gaps;
     same(WRITE, refusal, agrees, asked, n);
     longest_file = got.length > longest_file ? got.length : longest_file;
-    if (refusal == 0)
-        same(READ_BACK, 0, read_back(floor, numbers, count, buffer, file_length), asked, n);
+    if (refusal != 0)
+        return;
+    with_gaps[READ_BACK] += gaps;
+    same(READ_BACK, 0, read_back(floor, numbers, count, buffer, file_length), asked, n);
 }
 
 /* Walks from the start to the end by the library's own answers, with buffers of `least` to `most` rows: the joined rows are the list. */
-void try_walk(uint32_t m, uint32_t top, uint32_t floor, uint32_t least, uint32_t most)
+void try_walk(struct selection l, uint32_t least, uint32_t most)
 {
     size_t all, done = 0;
-    const uint32_t *list = reference_list(m, top, floor, &all);
-    uint32_t more = 1, p = 0, q = 0, width = top + 1;
+    const uint32_t *list = reference_list(l, &all);
+    uint32_t more = 1, p = 0, q = 0, width = row_width(l);
     int agrees = 1;
     for (int after = 0; agrees && more; after = 1) {
         size_t length = (least + below(most - least + 1)) * width + below(width);
         uint32_t *rows = slice_of(length);
-        FenyurkaList asked = {.degree = m, .top = top, .floor = floor};
-        FenyurkaPage page = after ? fenyurka_page_after(asked, p, q, rows, length) : fenyurka_first_page(asked, rows, length);
+        FenyurkaPage page = after ? fenyurka_page_after(asked_for(l), p, q, rows, length) : fenyurka_first_page(asked_for(l), rows, length);
         agrees = page.refusal == 0 && done + page.count <= all && (page.count > 0 || !page.more)
                  && memcmp(rows, list + done * width, page.count * width * sizeof rows[0]) == 0;
         done += page.count;
@@ -304,19 +341,20 @@ void try_walk(uint32_t m, uint32_t top, uint32_t floor, uint32_t least, uint32_t
             q = rows[(page.count - 1) * width + 1];
         }
     }
-    SAME(WALK, 0, agrees && done == all, m, top, floor, least, most);
+    with_gaps[WALK] += l.gaps != 0;
+    SAME(WALK, 0, agrees && done == all, l.degree, l.top, l.floor, l.gaps, least, most);
 }
 
 /* ---- the result */
 
 int report(void)
 {
-    printf("%-20s %10s   of them refused with 1 .. %d\n", "compared", "calls", MOST_REFUSAL);
+    printf("%-20s %10s %10s   of them refused with 1 .. %d\n", "compared", "calls", "with gaps", MOST_REFUSAL);
     for (int c = 0; c < CALLS; c++) {
         unsigned long sum = 0;
         for (int a = 0; a <= MOST_REFUSAL; a++)
             sum += answered[c][a];
-        printf("%-20s %10lu  ", names[c], sum);
+        printf("%-20s %10lu %10lu  ", names[c], sum, with_gaps[c]);
         for (int a = 1; a <= MOST_REFUSAL; a++)
             printf(" %lu", answered[c][a]);
         printf("\n");

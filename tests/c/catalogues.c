@@ -1,6 +1,6 @@
-/* Which catalogues, readers and writers are compared: whole, damaged, made by hand; asked for rightly and wrongly. */
+/* Which catalogues, readers and writers are compared: whole, damaged, made by hand; asked for rightly and wrongly; of both kinds of row
+   and mixed. */
 #include "calls.h"
-#include "reference.h"
 
 #include <string.h>
 
@@ -12,19 +12,26 @@ static void put(size_t place, uint32_t number, int width)
         file[place + i] = (uint8_t)number;
 }
 
-/* A row into the file: of the list while it has rows, or of numbers that the form allows. */
-static size_t put_row(size_t place, uint32_t m, uint32_t top, const uint32_t *row)
+/* A row into the file: of the list while it has rows, or of numbers that the form allows, which for the sum of gaps is any byte. */
+static size_t put_row(size_t place, struct selection l, const uint32_t *row)
 {
-    uint32_t size = (uint32_t)1 << m;
+    uint32_t size = (uint32_t)1 << l.degree;
     put(place, row ? row[0] - size : below(size), 2);
     put(place + 2, row ? row[1] : below(size), 2);
     put(place + 4, row ? row[2] : below(size), 2);
-    for (uint32_t s = LEAST_TOP; s <= top; s++)
-        file[place + 3 + s] = (uint8_t)(row ? row[s] : below(m + 1));
-    return place + top + 4;
+    for (uint32_t i = LEAST_TOP; i < row_width(l); i++)
+        file[place + 3 + i] = (uint8_t)(row ? row[i] : i > l.top ? draw() : below(l.degree + 1));
+    return place + row_bytes(l);
 }
 
-/* A catalogue of the degrees in `set` (bit m for degree m), up to `most` rows each, or of whole lists with T = `whole`; its length. */
+/* The second number of an entry, of either kind. */
+static uint32_t draw_marked(void)
+{
+    return LEAST_TOP + below(6) + GAPS_MARK * below(2);
+}
+
+/* A catalogue of the degrees in `set` (bit m for degree m), up to `most` rows each, or of whole lists of the T and kind that the number
+   `whole` says; its length. */
 static size_t make_catalogue(uint32_t set, uint32_t most, uint32_t whole)
 {
     size_t n = (size_t)__builtin_popcount(set), place = 1 + 8 * n, entry = 1;
@@ -33,22 +40,23 @@ static size_t make_catalogue(uint32_t set, uint32_t most, uint32_t whole)
         if (!(set >> m & 1))
             continue;
         size_t all;
-        uint32_t top = whole ? whole : LEAST_TOP + below(6), rows = below(most + 1), real = below(2);
-        const uint32_t *list = reference_list(m, top, 0, &all);
+        struct selection l = selection_of(m, whole ? whole : draw_marked(), 0);
+        uint32_t rows = below(most + 1), real = below(2);
+        const uint32_t *list = reference_list(l, &all);
         if (whole)
             rows = (uint32_t)all;
         put(entry, m, 1);
-        put(entry + 1, top, 1);
+        put(entry + 1, marked_top(l), 1);
         put(entry + 2, rows, 2);
         put(entry + 4, (uint32_t)place, 4);
         entry += 8;
         for (uint32_t r = 0; r < rows; r++)
-            place = put_row(place, m, top, (whole || real) && r < all ? list + r * (top + 1) : NULL);
+            place = put_row(place, l, (whole || real) && r < all ? list + r * row_width(l) : NULL);
     }
     return place;
 }
 
-/* Opens, looks every degree up, and reads each body from its first row to the end. */
+/* Opens, looks every degree up, and reads each body from its first row to the end, then as if it were of some other kind. */
 static void read_all(size_t length)
 {
     try_open(file, length);
@@ -58,12 +66,16 @@ static void read_all(size_t length)
         try_lookup(file, length, m);
         if (reference_lookup(file, length, m, &body) != 0)
             continue;
+        struct selection l = {m, body.top, 0, body.gaps};
         const uint8_t *bytes = file + body.offset;
         uint32_t size = (uint32_t)body.length;
-        while (try_row(bytes, size, m, body.top, place))
+        while (try_row(bytes, size, l, place))
             place += body.row_size;
-        for (int i = 0; i < 4; i++)
-            try_row(bytes, size - below(size + 1), near(m), body.top, below(size + 3));
+        for (int i = 0; i < 4; i++) {
+            l.degree = near(m);
+            l.gaps = below(2) ? body.gaps : draw_gaps();
+            try_row(bytes, size - below(size + 1), l, below(size + 3));
+        }
     }
     for (int i = 0; i < EXTREMES; i++)
         try_lookup(file, length, extremes[i]);
@@ -84,10 +96,10 @@ static void damage_once(size_t length)
     }
 }
 
-/* The 41 bytes of document 01: each byte with each value, each length. */
-static void small_catalogue(void)
+/* The 41 bytes of document 01, and those with the sum of gaps: each byte with each value, each length. */
+static void small_catalogue(uint32_t marked)
 {
-    size_t length = make_catalogue(1u << 3, 0, 4);
+    size_t length = make_catalogue(1u << 3, 0, marked);
     read_all(length);
     for (size_t place = 0; place < length; place++)
         for (int change = 1; change < 256; change++) {
@@ -106,20 +118,22 @@ static void small_catalogue(void)
 void catalogues(unsigned rounds)
 {
     const uint32_t every = 0x1FFFC;
-    small_catalogue();
-    for (uint32_t top = LEAST_TOP; top <= MOST_TOP; top++) {
-        size_t length = make_catalogue(every, 0, top);
-        read_all(length);
-        for (int i = 0; i < 100; i++)
-            damage_once(length);
-    }
+    for (uint32_t top = LEAST_TOP; top <= MOST_TOP; top++)
+        for (uint32_t marked = top; marked <= top + GAPS_MARK; marked += GAPS_MARK) {
+            if (top == 4)
+                small_catalogue(marked);
+            size_t length = make_catalogue(every, 0, marked);
+            read_all(length);
+            for (int i = 0; i < 100; i++)
+                damage_once(length);
+        }
     for (unsigned i = 0; i < rounds; i++) {
         size_t length = make_catalogue((below(3) ? draw() & draw() : draw()) & every, below(3) ? 4 : 12, 0);
         read_all(length);
         for (int k = 0; k < 30; k++)
             damage_once(length);
         for (size_t k = 0; k < length; k++)
-            file[k] = below(3) ? (uint8_t)below(20) : (uint8_t)draw();
+            file[k] = below(3) ? (uint8_t)below(26) : (uint8_t)draw();
         try_open(file, length);
         try_lookup(file, length, below(20));
     }
@@ -130,16 +144,16 @@ void readers(unsigned rounds)
 {
     for (unsigned i = 0; i < rounds; i++) {
         size_t length = below(100), place = below(4) ? below(110) : (size_t)0 - below(20);
-        uint32_t m = below(20), top = below(11);
+        struct selection l = {below(20), below(11), 0, draw_gaps()};
         for (size_t k = 0; k < length; k++)
             file[k] = (uint8_t)draw();
         if (below(2))
-            place = place / (top + 4) * (top + 4);
+            place = place / row_bytes(l) * row_bytes(l);
         if (below(10) == 0)
-            m = extremes[below(EXTREMES)];
+            l.degree = extremes[below(EXTREMES)];
         if (below(10) == 0)
-            top = extremes[below(EXTREMES)];
-        try_row(file, length, m, top, place);
+            l.top = extremes[below(EXTREMES)];
+        try_row(file, length, l, place);
     }
 }
 
@@ -165,17 +179,32 @@ static void write_into_all(uint32_t floor, const uint32_t *numbers, size_t count
         write_into(room, floor, numbers, count);
 }
 
-/* Each degree alone, with every T, at every floor up to degree 8; small files with a buffer of every length. */
+/* Each degree alone, with every T of both kinds, at every floor up to degree 8; small files with a buffer of every length. */
 static void write_singly(void)
 {
     for (uint32_t m = LEAST_DEGREE; m <= 10; m++)
-        for (uint32_t top = LEAST_TOP; top <= MOST_TOP; top++)
+        for (uint32_t kind = 0; kind < 12; kind++)
             for (uint32_t floor = 0; floor <= MOST_FLOOR + 1; floor += m <= 8 ? 1 : 11) {
-                const uint32_t numbers[2] = {m, top};
+                const uint32_t numbers[2] = {m, LEAST_TOP + kind / 2 + kind % 2 * GAPS_MARK};
                 write_into_all(floor, numbers, 2);
                 for (size_t length = 0; m <= 5 && length <= 160; length++)
                     try_write(floor, numbers, 2, length);
             }
+}
+
+/* Every second number up to 40 and some beyond, whose low bytes are lawful or not, alone and as the first and the last of two. */
+static void write_tops(void)
+{
+    static const uint32_t beyond[] = {255, 256, 259, 275, 280, 512 + 3, 65535, 65536 + 19, 0x7FFFFFFF, 0x80000003, 0x80000013, 0xFFFFFFF3,
+                                      0xFFFFFFFF};
+    enum { UP_TO = 40, BEYOND = sizeof beyond / sizeof beyond[0] };
+    for (uint32_t i = 0; i <= UP_TO + BEYOND; i++)
+        for (uint32_t k = 0; k < 3; k++) {
+            uint32_t numbers[4] = {3, draw_marked(), 5, draw_marked()};
+            numbers[k == 1 ? 3 : 1] = i <= UP_TO ? i : beyond[i - UP_TO - 1];
+            write_into_all(draw_floor(), numbers, k == 0 ? 2 : 4);
+            write_into_all(0, numbers, k == 0 ? 2 : 4);
+        }
 }
 
 /* All requests of up to `most` numbers out of n, at floor 0 and at another. */
@@ -200,7 +229,7 @@ static size_t draw_request(uint32_t *numbers, uint32_t least, uint32_t most)
     for (uint32_t m = least; m <= most; m++)
         if (set >> m & 1) {
             numbers[count++] = m;
-            numbers[count++] = LEAST_TOP + below(6);
+            numbers[count++] = draw_marked();
         }
     return count;
 }
@@ -210,7 +239,7 @@ static uint32_t draw_wrong(void)
 {
     uint32_t wrong = extremes[below(EXTREMES)];
     if (below(3) == 0)
-        return 3 + below(6) + (below(2) ? 256 : 65536) * (1 + below(200));
+        return draw_marked() + (below(2) ? 256 : 65536) * (1 + below(200));
     return 10 < wrong && wrong <= MOST_DEGREE ? 0 : wrong;
 }
 
@@ -241,7 +270,7 @@ static size_t spoil(uint32_t *numbers, size_t count)
     default: /* too many entries, at times so many that their count is lawful in its low byte */
         more = 2 * (MOST_ENTRIES + 1 + below(below(2) ? 300 : 5));
         for (size_t i = count; i < more; i++)
-            numbers[i] = i % 2 ? LEAST_TOP + below(6) : LEAST_DEGREE + below(15);
+            numbers[i] = i % 2 ? draw_marked() : LEAST_DEGREE + below(15);
         return more < count ? count : more;
     }
 }
@@ -254,7 +283,7 @@ static void write_high(void)
         for (uint32_t top = LEAST_TOP; top <= MOST_TOP; top += m < 13 ? 1 : 5)
             for (uint32_t floor = 0; floor <= MOST_FLOOR; floor += MOST_FLOOR) {
                 numbers[0] = m;
-                numbers[1] = top;
+                numbers[1] = top + ((floor == 0) ^ top % 2) * GAPS_MARK;
                 write_into(below(2) ? EXACT : ONE_LONG, floor, numbers, 2);
                 write_into(below(2) ? ONE_SHORT : EMPTY, floor, numbers, 2);
             }
@@ -264,7 +293,7 @@ static void write_high(void)
         uint32_t floor = kind == 0 ? below(MOST_FLOOR + 1) : kind == 3 ? MOST_FLOOR : 0;
         for (uint32_t i = 0; i < MOST_ENTRIES; i++) {
             numbers[2 * i] = LEAST_DEGREE + i;
-            numbers[2 * i + 1] = kind == 0 ? LEAST_TOP + below(6) : kind == 1 ? LEAST_TOP : MOST_TOP;
+            numbers[2 * i + 1] = kind == 0 ? draw_marked() : kind == 1 ? LEAST_TOP : kind == 2 ? MOST_TOP + GAPS_MARK : MOST_TOP;
         }
         write_into(kind == 0 ? ONE_LONG : EXACT, floor, numbers, 2 * MOST_ENTRIES);
         write_into(ONE_SHORT, floor, numbers, 2 * MOST_ENTRIES);
@@ -273,10 +302,11 @@ static void write_high(void)
 
 void writers(unsigned rounds)
 {
-    static const uint32_t ten[10] = {0, 1, 2, 3, 4, 8, 9, 17, 258, 0xFFFFFFFF}, six[6] = {1, 2, 3, 5, 6, 9};
+    static const uint32_t twelve[12] = {0, 1, 2, 3, 4, 8, 9, 17, 19, 24, 258, 0xFFFFFFFF}, six[6] = {1, 2, 3, 5, 6, 9};
     static uint32_t numbers[MOST_NUMBERS];
     write_singly();
-    write_all_of(ten, 10, 4);
+    write_tops();
+    write_all_of(twelve, 12, 4);
     write_all_of(six, 6, 6);
     for (unsigned i = 0; i < rounds; i++) {
         size_t count = draw_request(numbers, LEAST_DEGREE, below(10) ? 8 : 10);

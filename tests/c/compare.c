@@ -1,28 +1,29 @@
-/* Compares the library, through its header, with the reference: which pairs, floors, dimensions, pages and points are compared. Prints what was
-   compared and how often; exit status 1 on any difference. An argument is the seed of the random part. */
+/* Compares the library, through its header, with the reference: which pairs, floors, dimensions, pages of both kinds and points are
+   compared. Prints what was compared and how often; exit status 1 on any difference. An argument is the seed of the random part. */
 #include "calls.h"
-#include "reference.h"
 
 #include <stdio.h>
 #include <stdlib.h>
 
 /* ---- all pairs of small degrees */
 
-/* Pages of all lengths at a floor, from the start and after each pair that floor 0 accepts, and walks. */
-static void small_pages(uint32_t m, uint32_t top, uint32_t floor)
+/* Pages of all lengths, from the start and after each pair that floor 0 accepts, and walks. */
+static void small_pages(struct selection l)
 {
-    size_t all, pairs;
-    const uint32_t *list = reference_list(m, top, 0, &pairs);
-    reference_list(m, top, floor, &all);
-    for (size_t length = 0; length <= (all + 2) * (top + 1); length++) {
-        try_page(m, top, floor, 0, 0, 0, length);
+    struct selection accepted = l;
+    size_t all, pairs, width = row_width(l);
+    accepted.floor = 0;
+    const uint32_t *list = reference_list(accepted, &pairs);
+    reference_list(l, &all);
+    for (size_t length = 0; length <= (all + 2) * width; length++) {
+        try_page(l, 0, 0, 0, length);
         for (size_t i = 0; i < pairs; i++)
-            try_page(m, top, floor, 1, list[i * (top + 1)], list[i * (top + 1) + 1], length);
+            try_page(l, 1, list[i * width], list[i * width + 1], length);
     }
     for (uint32_t rows = 1; rows <= all + 1; rows++)
-        try_walk(m, top, floor, rows, rows);
+        try_walk(l, rows, rows);
     for (int i = 0; i < 20; i++)
-        try_walk(m, top, floor, 1, (uint32_t)all + 1);
+        try_walk(l, 1, (uint32_t)all + 1);
 }
 
 /* All first indices and lengths, each at some floor that accepts the pair. */
@@ -44,19 +45,21 @@ static void small_degree(uint32_t m)
             for (uint32_t floor = 0; floor <= MOST_FLOOR + 1; floor++) {
                 try_judge(m, floor, p, q);
                 try_points(m, floor, p, q, below(size + 1), below(size + 1));
-                try_page(m, LEAST_TOP + below(6), floor, 1, p, q, below(40));
+                try_page((struct selection){m, LEAST_TOP + below(6), floor, draw_gaps()}, 1, p, q, below(40));
             }
             try_judge(m, draw(), p, q);
             try_quotients(m, p, q);
+            try_gaps(m, p, q);
             small_points(m, p, q);
             for (uint32_t s = 0; s <= 9; s++)
                 try_t_value(m, p, q, s);
         }
     for (uint32_t top = LEAST_TOP; top <= MOST_TOP; top++) {
         for (uint32_t floor = 0; floor <= MOST_FLOOR; floor++)
-            small_pages(m, top, floor);
+            for (uint32_t gaps = 0; gaps <= 1; gaps++)
+                small_pages((struct selection){m, top, floor, gaps});
         for (uint32_t i = 0; i < 100; i++)
-            try_page(m, top, draw_floor(), 0, 0, 0, below(40));
+            try_page((struct selection){m, top, draw_floor(), draw_gaps()}, 0, 0, 0, below(40));
     }
 }
 
@@ -89,7 +92,7 @@ static void draw_pair(uint32_t m, uint32_t *p, uint32_t *q)
 {
     size_t all;
     uint32_t size = (uint32_t)1 << m, kind = below(10);
-    const uint32_t *list = reference_list(m, LEAST_TOP, 0, &all);
+    const uint32_t *list = reference_list((struct selection){m, LEAST_TOP, 0, 0}, &all);
     *p = size + below(size);
     *q = 1 + below(size - 1);
     if (kind >= 8 && all > 0) {
@@ -123,6 +126,7 @@ static void random_pairs(unsigned rounds)
         try_quotients(near(m), p, q);
         draw_pair(m, &p, &q);
         try_quotients(near(m), p, q);
+        try_gaps(near(m), p, q);
         try_t_value(near(m), p, q, below(20) == 0 ? extremes[below(EXTREMES)] : 1 + below(8));
     }
 }
@@ -144,47 +148,63 @@ static void random_points(unsigned rounds)
 }
 
 /* Pages after each row of a step below 32 and from the row before it, at the last floor that the step reaches and at the next. */
-static void pages_about_short_steps(uint32_t m, uint32_t top)
+static void pages_about_short_steps(struct selection l)
 {
-    size_t all, width = top + 1;
-    const uint32_t *list = reference_list(m, top, 0, &all);
+    size_t all, width = row_width(l);
+    const uint32_t *list = reference_list(l, &all);
     for (size_t i = 0; i < all; i++) {
         const uint32_t *row = list + i * width, *before = i > 0 ? row - width : row, step = row[2];
-        for (uint32_t floor = step; step < MOST_FLOOR && floor <= step + 1; floor++) {
-            try_page(m, top, floor, i > 0, before[0], before[1], 3 * width);
-            try_page(m, top, floor, 1, row[0], row[1], 3 * width);
+        for (l.floor = step; step < MOST_FLOOR && l.floor <= step + 1; l.floor++) {
+            try_page(l, i > 0, before[0], before[1], 3 * width);
+            try_page(l, 1, row[0], row[1], 3 * width);
         }
     }
 }
 
-/* Page calls that search, and walks at some floors: fewer the higher the degree. */
+/* A page of some rows from the start or after some pair of the list. */
+static void random_page(uint32_t m)
+{
+    size_t all;
+    struct selection l = {m, LEAST_TOP + below(6), 0, draw_gaps()};
+    uint32_t width = row_width(l);
+    const uint32_t *row = reference_list(l, &all) + below((uint32_t)all) * width;
+    size_t rows = below(3) ? below(60) : below((uint32_t)all + 2);
+    l.floor = below(4) ? below(MOST_FLOOR + 1) : floor_for(m, row[0], row[1]);
+    try_page(l, below(4) != 0, row[0], row[1], rows * width + below(width));
+}
+
+/* Walks at some floors, of both kinds below degree 12 and of one kind at each floor above. */
+static void some_walks(uint32_t m, uint32_t top)
+{
+    const uint32_t floors[] = {0, MOST_FLOOR, below(MOST_FLOOR), 1 + below(MOST_FLOOR)};
+    for (uint32_t k = 0; k < (m < 12 ? 8 : 2); k++) {
+        struct selection l = {m, top, floors[k % 4], m < 12 ? k / 4 : (k + top) % 2};
+        size_t all;
+        reference_list(l, &all);
+        uint32_t third = (uint32_t)all / 3 + 1;
+        try_walk(l, third, third);
+        if (m < 12)
+            try_walk(l, 1 + (uint32_t)all / 20, 1 + (uint32_t)all / 4);
+    }
+}
+
+/* Page calls that search, and walks: fewer the higher the degree. */
 static void random_pages(void)
 {
     static const unsigned rounds[MOST_DEGREE + 1] = {[7] = 400, 300, 300, 200, 100, 50, 24, 16, 10, 8};
     for (uint32_t m = 7; m <= MOST_DEGREE; m++) {
-        size_t all;
-        for (unsigned i = 0; i < rounds[m]; i++) {
-            uint32_t top = LEAST_TOP + below(6), width = top + 1;
-            const uint32_t *row = reference_list(m, top, 0, &all) + below((uint32_t)all) * width;
-            uint32_t floor = below(4) ? below(MOST_FLOOR + 1) : floor_for(m, row[0], row[1]);
-            size_t rows = below(3) ? below(60) : below((uint32_t)all + 2);
-            try_page(m, top, floor, below(4) != 0, row[0], row[1], rows * width + below(width));
-        }
+        for (unsigned i = 0; i < rounds[m]; i++)
+            random_page(m);
         for (uint32_t top = LEAST_TOP; top <= MOST_TOP; top += m < 12 ? 1 : 5) {
-            const uint32_t floors[] = {0, MOST_FLOOR, below(MOST_FLOOR), 1 + below(MOST_FLOOR)};
-            pages_about_short_steps(m, top);
-            for (int k = 0; k < (m < 12 ? 4 : 2); k++) {
-                try_walk(m, top, floors[k], (uint32_t)all / 3 + 1, (uint32_t)all / 3 + 1);
-                if (m < 12)
-                    try_walk(m, top, floors[k], 1 + (uint32_t)all / 20, 1 + (uint32_t)all / 4);
-            }
+            pages_about_short_steps((struct selection){m, top, 0, draw_gaps()});
+            some_walks(m, top);
         }
         for (unsigned i = 0; i < 200; i++) {
             uint32_t p, q, step;
             draw_pair(m, &p, &q);
             uint32_t floor = floor_for(m, p, q);
             if (reference_judge(m, floor, p, q, &step) != 0)
-                try_page(near(m), below(12), floor, 1, p, q, below(40));
+                try_page((struct selection){near(m), below(12), floor, draw_gaps()}, 1, p, q, below(40));
         }
     }
 }
@@ -216,6 +236,26 @@ static void counts(void)
     }
 }
 
+/* ---- sums of gaps by counting */
+
+/* All pairs of degrees 2 to 5, samples above; by both ways of the reference. */
+static void cubes(void)
+{
+    static const unsigned samples[MOST_DEGREE + 1] = {[6] = 300, 200, 100, 60, 20, 10, 6, 4, 3, 2, 2};
+    uint32_t p, q, sum;
+    for (uint32_t m = LEAST_DEGREE; m <= 5; m++)
+        for (p = (uint32_t)1 << m; p < (uint32_t)2 << m; p++)
+            for (q = 1; q < (uint32_t)1 << m; q++)
+                try_cubes(m, p, q);
+    for (uint32_t m = 6; m <= MOST_DEGREE; m++)
+        for (unsigned i = 0; i < samples[m]; i++) {
+            do
+                draw_pair(m, &p, &q);
+            while (reference_gaps(m, p, q, &sum) != 0);
+            try_cubes(m, p, q);
+        }
+}
+
 /* ---- extreme numbers in every place */
 
 static void extreme_pages(uint32_t m, uint32_t top)
@@ -223,10 +263,10 @@ static void extreme_pages(uint32_t m, uint32_t top)
     static const size_t lengths[] = {0, 1, 3, 4, 5, 8, 9, 10, 100};
     for (size_t k = 0; k < sizeof lengths / sizeof lengths[0]; k++)
         for (int i = 0; i < 3; i++) {
-            uint32_t floor = i == 0 ? 0 : i == 1 ? extremes[below(EXTREMES)] : draw_floor();
-            if (m <= 10 || m > MOST_DEGREE || lengths[k] <= top)
-                try_page(m, top, floor, 0, 0, 0, lengths[k]);
-            try_page(m, top, floor, 1, extremes[below(EXTREMES)], extremes[below(EXTREMES)], lengths[k]);
+            struct selection l = {m, top, i == 0 ? 0 : i == 1 ? extremes[below(EXTREMES)] : draw_floor(), draw_gaps()};
+            if (m <= 10 || m > MOST_DEGREE || !lawful_top(top) || lengths[k] < row_width(l))
+                try_page(l, 0, 0, 0, lengths[k]);
+            try_page(l, 1, extremes[below(EXTREMES)], extremes[below(EXTREMES)], lengths[k]);
         }
 }
 
@@ -237,6 +277,7 @@ static void extreme_numbers(void)
             extreme_pages(extremes[a], extremes[b]);
             for (int c = 0; c < EXTREMES; c++) {
                 try_quotients(extremes[a], extremes[b], extremes[c]);
+                try_gaps(extremes[a], extremes[b], extremes[c]);
                 for (int d = 0; d < EXTREMES; d += 1 + (int)below(3)) {
                     try_judge(extremes[a], extremes[d], extremes[b], extremes[c]);
                     try_t_value(extremes[a], extremes[b], extremes[c], extremes[d]);
@@ -263,6 +304,8 @@ int main(int argc, char **argv)
         small_degree(m);
     part("t-values counted, of all pairs of degrees 2 to 5 and samples of 6 to 8");
     counts();
+    part("sums of gaps counted, of all pairs of degrees 2 to 5 and samples to degree 16");
+    cubes();
     part("extreme numbers in every place");
     extreme_numbers();
     part("catalogues, whole and damaged");

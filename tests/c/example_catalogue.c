@@ -1,4 +1,4 @@
-/* Prints the rows that a catalogue has for degree 3: example_catalogue FILE. */
+/* Prints the rows that a catalogue has for degree 3, with the sum of resolution gaps if it has it: example_catalogue FILE. */
 #include <stdio.h>
 #include "fenyurka.h"
 
@@ -16,7 +16,7 @@ int main(int argc, char **argv)
         printf("refused %u\n", body.refusal);
         return 1;
     }
-    FenyurkaList list = {.degree = 3, .top = body.top};
+    FenyurkaList list = {.degree = 3, .top = body.top, .gaps = body.gaps};
     FenyurkaRow row = fenyurka_row(list, file + body.offset, body.length, 0);
     while (row.count > 0) {
         for (size_t i = 0; i < row.count; i++)

@@ -1,5 +1,5 @@
 /* Documents 01 and 02 in plain C, slow and literal. Orders and steps by walking, quotients by Euclid, t by counting points in boxes,
-   the list out of all pairs and sorted by the whole key. */
+   the sum of resolution gaps by counting them in cubes, the list out of all pairs and sorted by the whole key. */
 #include "reference.h"
 
 #include <stdlib.h>
@@ -152,7 +152,7 @@ uint32_t reference_quotients(uint32_t m, uint32_t p, uint32_t q, uint32_t *large
     return 0;
 }
 
-/* ---- t-values */
+/* ---- points in boxes */
 
 /* q^j mod p for the coordinates j below s. */
 static void powers_of(uint32_t p, uint32_t q, uint32_t s, uint32_t *powers)
@@ -161,6 +161,75 @@ static void powers_of(uint32_t p, uint32_t q, uint32_t s, uint32_t *powers)
     for (uint32_t j = 1; j < s; j++)
         powers[j] = remainder_of(product(powers[j - 1], q), p);
 }
+
+/* Of the pair that was asked for last: the first m digits of each coordinate of each point h, and the generating matrices, row by row. */
+static uint32_t digits[MOST_DEGREE][1u << MOST_DEGREE], matrices[MOST_DEGREE][MOST_DEGREE];
+
+static void build_points(uint32_t m, uint32_t p, uint32_t q, uint32_t s)
+{
+    uint32_t powers[MOST_DEGREE];
+    powers_of(p, q, s, powers);
+    for (uint32_t j = 0; j < s; j++)
+        for (uint32_t h = 0; h < (uint32_t)1 << m; h++)
+            digits[j][h] = (uint32_t)leading_digits(remainder_of(product(h, powers[j]), p), p, (int)m);
+}
+
+/* A point's digits are linear in h: column k of coordinate j's matrix is what h = x^k has for digits. */
+static void build_matrices(uint32_t m, uint32_t p, uint32_t q, uint32_t s)
+{
+    uint32_t powers[MOST_DEGREE];
+    powers_of(p, q, s, powers);
+    memset(matrices, 0, sizeof matrices);
+    for (uint32_t j = 0; j < s; j++)
+        for (uint32_t k = 0; k < m; k++) {
+            uint64_t column = leading_digits(remainder_of(product((uint64_t)1 << k, powers[j]), p), p, (int)m);
+            for (uint32_t i = 0; i < m; i++)
+                matrices[j][i] |= (uint32_t)(column >> (m - 1 - i) & 1) << k;
+        }
+}
+
+/* Whether all boxes that share[j] leading digits of each coordinate j below s make hold equally many points; the share has at most m
+   digits. In two ways: */
+typedef int even_test(uint32_t m, uint32_t s, const uint32_t *share);
+
+/* Each point h is put into its box, then every box is looked at. */
+static int boxes_even(uint32_t m, uint32_t s, const uint32_t *share)
+{
+    static uint32_t boxes[1u << MOST_DEGREE];
+    uint32_t k = 0;
+    for (uint32_t j = 0; j < s; j++)
+        k += share[j];
+    memset(boxes, 0, sizeof boxes[0] << k);
+    for (uint32_t h = 0; h < (uint32_t)1 << m; h++) {
+        uint32_t box = 0;
+        for (uint32_t j = 0; j < s; j++)
+            box = box << share[j] | digits[j][h] >> (m - share[j]);
+        boxes[box]++;
+    }
+    for (uint32_t box = 0; box < (uint32_t)1 << k; box++)
+        if (boxes[box] != (uint32_t)1 << (m - k))
+            return 0;
+    return 1;
+}
+
+/* The rows of the share are linearly independent, by elimination with a row for each lowest column. */
+static int rows_independent(uint32_t m, uint32_t s, const uint32_t *share)
+{
+    uint32_t pivots[MOST_DEGREE] = {0};
+    (void)m;
+    for (uint32_t j = 0; j < s; j++)
+        for (uint32_t i = 0; i < share[j]; i++) {
+            uint32_t row = matrices[j][i];
+            while (row != 0 && pivots[__builtin_ctz(row)] != 0)
+                row ^= pivots[__builtin_ctz(row)];
+            if (row == 0)
+                return 0;
+            pivots[__builtin_ctz(row)] = row;
+        }
+    return 1;
+}
+
+/* ---- t-values */
 
 /* The next way to share the same number of digits among s coordinates; 0 behind the last. The first has all in coordinate 0. */
 static int next_share(uint32_t *share, uint32_t s)
@@ -177,83 +246,31 @@ static int next_share(uint32_t *share, uint32_t s)
     return 1;
 }
 
-/* Whether in this share of k digits each box has 2^(m-k) points: each point h is put into its box, then every box is looked at. */
-static int boxes_even(uint32_t m, uint32_t s, uint32_t k, const uint32_t *share, uint32_t *const digits[])
+static uint32_t t_by(even_test *even, uint32_t m, uint32_t s)
 {
-    static uint32_t boxes[1u << MOST_DEGREE];
-    memset(boxes, 0, sizeof boxes[0] << k);
-    for (uint32_t h = 0; h < (uint32_t)1 << m; h++) {
-        uint32_t box = 0;
-        for (uint32_t j = 0; j < s; j++)
-            box = box << share[j] | digits[j][h] >> (m - share[j]);
-        boxes[box]++;
+    uint32_t t;
+    for (t = 0; t < m; t++) {
+        uint32_t share[MOST_DIMENSION] = {m - t};
+        int all;
+        do
+            all = even(m, s, share);
+        while (all && next_share(share, s));
+        if (all)
+            break;
     }
-    for (uint32_t box = 0; box < (uint32_t)1 << k; box++)
-        if (boxes[box] != (uint32_t)1 << (m - k))
-            return 0;
-    return 1;
+    return t;
 }
 
 uint32_t reference_t_by_counting(uint32_t m, uint32_t p, uint32_t q, uint32_t s)
 {
-    uint32_t powers[MOST_DIMENSION], *digits[MOST_DIMENSION], t;
-    powers_of(p, q, s, powers);
-    for (uint32_t j = 0; j < s; j++) {
-        digits[j] = malloc(sizeof(uint32_t) << m);
-        for (uint32_t h = 0; h < (uint32_t)1 << m; h++)
-            digits[j][h] = (uint32_t)leading_digits(remainder_of(product(h, powers[j]), p), p, (int)m);
-    }
-    for (t = 0; t < m; t++) {
-        uint32_t share[MOST_DIMENSION] = {m - t};
-        int even;
-        do
-            even = boxes_even(m, s, m - t, share, digits);
-        while (even && next_share(share, s));
-        if (even)
-            break;
-    }
-    for (uint32_t j = 0; j < s; j++)
-        free(digits[j]);
-    return t;
-}
-
-/* Whether the rows of a share are linearly independent, by elimination with a row for each lowest column. */
-static int rows_independent(uint32_t s, const uint32_t *share, uint32_t rows[][MOST_DEGREE])
-{
-    uint32_t pivots[MOST_DEGREE] = {0};
-    for (uint32_t j = 0; j < s; j++)
-        for (uint32_t i = 0; i < share[j]; i++) {
-            uint32_t row = rows[j][i];
-            while (row != 0 && pivots[__builtin_ctz(row)] != 0)
-                row ^= pivots[__builtin_ctz(row)];
-            if (row == 0)
-                return 0;
-            pivots[__builtin_ctz(row)] = row;
-        }
-    return 1;
+    build_points(m, p, q, s);
+    return t_by(boxes_even, m, s);
 }
 
 uint32_t reference_t_by_rank(uint32_t m, uint32_t p, uint32_t q, uint32_t s)
 {
-    uint32_t powers[MOST_DIMENSION], rows[MOST_DIMENSION][MOST_DEGREE] = {{0}};
-    powers_of(p, q, s, powers);
-    /* A point's digits are linear in h: column k of coordinate j's matrix is what h = x^k has for digits. */
-    for (uint32_t j = 0; j < s; j++)
-        for (uint32_t k = 0; k < m; k++) {
-            uint64_t digits = leading_digits(remainder_of(product((uint64_t)1 << k, powers[j]), p), p, (int)m);
-            for (uint32_t i = 0; i < m; i++)
-                rows[j][i] |= (uint32_t)(digits >> (m - 1 - i) & 1) << k;
-        }
-    for (uint32_t t = 0; t < m; t++) {
-        uint32_t share[MOST_DIMENSION] = {m - t};
-        int independent;
-        do
-            independent = rows_independent(s, share, rows);
-        while (independent && next_share(share, s));
-        if (independent)
-            return t;
-    }
-    return m;
+    build_matrices(m, p, q, s);
+    return t_by(rows_independent, m, s);
 }
 
 uint32_t reference_t_value(uint32_t m, uint32_t p, uint32_t q, uint32_t dimension, uint32_t *t)
@@ -273,9 +290,56 @@ uint32_t reference_count(uint32_t m, uint32_t p, uint32_t q, uint32_t dimension,
     return m > MOST_COUNTED ? 1 : reference_t_value(m, p, q, dimension, t);
 }
 
+/* ---- the sum of resolution gaps */
+
+/* The resolution in dimension s: the largest l, 1 to m, for which the 2^(s l) congruent cubes hold equally many points, 0 if none. Where
+   s l is above m there are more cubes than points, so they do not. */
+static uint32_t resolution_by(even_test *even, uint32_t m, uint32_t s)
+{
+    uint32_t resolution = 0;
+    for (uint32_t l = 1; s * l <= m; l++) {
+        uint32_t share[MOST_DEGREE];
+        for (uint32_t j = 0; j < s; j++)
+            share[j] = l;
+        if (even(m, s, share))
+            resolution = l;
+    }
+    return resolution;
+}
+
+static uint32_t gaps_by(even_test *even, uint32_t m)
+{
+    uint32_t sum = 0;
+    for (uint32_t s = 1; s <= m; s++)
+        sum += m / s - resolution_by(even, m, s);
+    return sum;
+}
+
+uint32_t reference_gaps_by_counting(uint32_t m, uint32_t p, uint32_t q)
+{
+    build_points(m, p, q, m);
+    return gaps_by(boxes_even, m);
+}
+
+uint32_t reference_gaps_by_rank(uint32_t m, uint32_t p, uint32_t q)
+{
+    build_matrices(m, p, q, m);
+    return gaps_by(rows_independent, m);
+}
+
+uint32_t reference_gaps(uint32_t m, uint32_t p, uint32_t q, uint32_t *sum)
+{
+    if (!lawful_degree(m))
+        return 1;
+    if (!well_formed(m, p, q))
+        return 3;
+    *sum = m <= MOST_CUBED ? reference_gaps_by_counting(m, p, q) : reference_gaps_by_rank(m, p, q);
+    return 0;
+}
+
 /* ---- the ranked list and its pages */
 
-/* All pairs of a degree that are accepted at floor 0, their steps and all t-values, in no rank. */
+/* All pairs of a degree that are accepted at floor 0, their steps, all t-values and the sum of gaps, in no rank. */
 struct accepted {
     size_t count;
     uint32_t (*rows)[LONGEST_ROW];
@@ -301,27 +365,28 @@ static struct accepted *accepted_of(uint32_t m)
             row[2] = step_of(m, p, q);
             for (uint32_t s = LEAST_TOP; s <= MOST_TOP; s++)
                 reference_t_value(m, p, q, s, &row[s]);
+            reference_gaps(m, p, q, &row[MOST_TOP + 1]);
             all->count++;
         }
     }
     return all;
 }
 
-/* A ranked list at a floor; its rows are NULL until it is asked for. */
+/* A ranked list; its rows are NULL until it is asked for. */
 struct ranked {
     size_t count;
     uint32_t *rows;
 };
 
-static uint32_t compared_top;
+static uint32_t compared_width;
 
-/* By t(3) .. t(T), then p, then q. */
+/* By the numbers from t(3) to the last one, then p, then q. */
 static int compare_rows(const void *left, const void *right)
 {
     const uint32_t *a = left, *b = right;
-    for (uint32_t s = LEAST_TOP; s <= compared_top; s++)
-        if (a[s] != b[s])
-            return a[s] < b[s] ? -1 : 1;
+    for (uint32_t i = LEAST_TOP; i < compared_width; i++)
+        if (a[i] != b[i])
+            return a[i] < b[i] ? -1 : 1;
     if (a[0] != b[0])
         return a[0] < b[0] ? -1 : 1;
     if (a[1] != b[1])
@@ -329,46 +394,53 @@ static int compare_rows(const void *left, const void *right)
     return 0;
 }
 
-const uint32_t *reference_list(uint32_t m, uint32_t top, uint32_t floor, size_t *count)
+const uint32_t *reference_list(struct selection l, size_t *count)
 {
-    static struct ranked lists[MOST_DEGREE + 1][MOST_TOP + 1][MOST_FLOOR + 1];
-    struct ranked *list = &lists[m][top][floor];
-    struct accepted *all = accepted_of(m);
+    static struct ranked lists[MOST_DEGREE + 1][MOST_TOP + 1][MOST_FLOOR + 1][2];
+    struct ranked *list = &lists[l.degree][l.top][l.floor][l.gaps != 0];
+    struct accepted *all = accepted_of(l.degree);
+    uint32_t width = row_width(l);
     if (list->rows == NULL) {
-        list->rows = malloc(sizeof(uint32_t) * (all->count * (top + 1) + 1));
-        compared_top = top;
-        qsort(all->rows, all->count, sizeof all->rows[0], compare_rows);
-        for (size_t i = 0; i < all->count; i++)
-            if (all->rows[i][2] >= floor)
-                memcpy(list->rows + list->count++ * (top + 1), all->rows[i], sizeof(uint32_t) * (top + 1));
+        list->rows = malloc(sizeof(uint32_t) * (all->count * width + 1));
+        for (size_t i = 0; i < all->count; i++) {
+            uint32_t *row = list->rows + list->count * width;
+            if (all->rows[i][2] < l.floor)
+                continue;
+            memcpy(row, all->rows[i], sizeof(uint32_t) * (l.top + 1));
+            if (l.gaps != 0)
+                row[l.top + 1] = all->rows[i][MOST_TOP + 1];
+            list->count++;
+        }
+        compared_width = width;
+        qsort(list->rows, list->count, sizeof(uint32_t) * width, compare_rows);
     }
     *count = list->count;
     return list->rows;
 }
 
-uint32_t reference_page(uint32_t m, uint32_t top, uint32_t floor, int after, uint32_t p, uint32_t q, size_t slice,
-                        const uint32_t **rows, size_t *count, uint32_t *more)
+uint32_t reference_page(struct selection l, int after, uint32_t p, uint32_t q, size_t slice, const uint32_t **rows, size_t *count,
+                        uint32_t *more)
 {
-    uint32_t step, refusal;
+    uint32_t step, refusal, width = row_width(l);
     size_t all, place = 0;
-    if (!lawful_degree(m))
+    if (!lawful_degree(l.degree))
         return 1;
-    if (!lawful_top(top))
+    if (!lawful_top(l.top))
         return 2;
-    if (!lawful_floor(floor))
+    if (!lawful_floor(l.floor))
         return 12;
-    if (after && (refusal = reference_judge(m, floor, p, q, &step)) != 0)
+    if (after && (refusal = reference_judge(l.degree, l.floor, p, q, &step)) != 0)
         return refusal;
-    if (slice < top + 1)
+    if (slice < width)
         return 7;
-    const uint32_t *list = reference_list(m, top, floor, &all);
+    const uint32_t *list = reference_list(l, &all);
     if (after) {
-        while (list[place * (top + 1)] != p || list[place * (top + 1) + 1] != q)
+        while (list[place * width] != p || list[place * width + 1] != q)
             place++;
         place++;
     }
-    *rows = list + place * (top + 1);
-    *count = slice / (top + 1) < all - place ? slice / (top + 1) : all - place;
+    *rows = list + place * width;
+    *count = slice / width < all - place ? slice / width : all - place;
     *more = place + *count < all;
     return 0;
 }

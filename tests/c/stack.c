@@ -1,6 +1,6 @@
 /* How much stack each call takes: it runs on a stack of its own that was filled with a pattern, and the bytes that no longer hold it
-   are counted. Prints the most for each call, over the degrees 2 to 16 at the floors 0 and 32, beside what the header says; exit
-   status 1 where it is more. */
+   are counted. Prints the most for each call, over the degrees 2 to 16 at the floors 0 and 32, without the sum of gaps and with it,
+   beside what the header says; exit status 1 where it is more. */
 #define _XOPEN_SOURCE 700
 #include "fenyurka.h"
 
@@ -10,7 +10,7 @@
 
 /* STATED and STATED_OF_WRITE are the header's bytes. */
 enum { STACK = 1 << 20, PATTERN = 0xA5, STATED = 16384, STATED_OF_WRITE = 131072 };
-enum { MOST_ROWS = 3000, TOP = 8, WIDTH = TOP + 1, MANY = 100000 };
+enum { MOST_ROWS = 3000, TOP = 8, MANY = 100000 };
 
 static unsigned char stack[STACK] __attribute__((aligned(64)));
 static ucontext_t here, there;
@@ -32,7 +32,7 @@ static size_t taken_by(void (*call)(void))
 }
 
 static FenyurkaList list = {.top = TOP};
-static uint32_t rows[MOST_ROWS * WIDTH], room[1 << 16];
+static uint32_t rows[MOST_ROWS * FENYURKA_LONGEST_ROW], room[1 << 16];
 static size_t count;
 /* Document 01's catalogue of degree 3, T = 4. */
 static const uint8_t file[41] = {
@@ -52,8 +52,8 @@ static void first_page(void)
 
 static void page_after(void)
 {
-    const uint32_t *middle = rows + count / 2 * WIDTH;
-    sink = fenyurka_page_after(list, middle[0], middle[1], room, 50 * WIDTH).more;
+    const uint32_t width = TOP + 1 + list.gaps, *middle = rows + count / 2 * width;
+    sink = fenyurka_page_after(list, middle[0], middle[1], room, 50 * width).more;
 }
 
 static void judge(void)
@@ -76,6 +76,11 @@ static void count_t_value(void)
     sink = fenyurka_count_t_value(list.degree, rows[0], rows[1], TOP).t;
 }
 
+static void sum_of_gaps(void)
+{
+    sink = fenyurka_sum_of_gaps(list.degree, rows[0], rows[1]).delta;
+}
+
 static void points(void)
 {
     sink = (uint32_t)fenyurka_points(list.degree, list.floor, rows[0], rows[1], 0, room, sizeof room / sizeof room[0]).count;
@@ -93,7 +98,7 @@ static void lookup(void)
 
 static void row(void)
 {
-    sink = fenyurka_row((FenyurkaList){.degree = 3, .top = 4}, file + 9, sizeof file - 9, 0).numbers[0];
+    sink = fenyurka_row((FenyurkaList){.degree = 3, .top = 4, .gaps = list.gaps}, file + 9, sizeof file - 9, 0).numbers[0];
 }
 
 /* A file of all degrees up to this one. */
@@ -103,7 +108,7 @@ static void write_file(void)
     size_t n = 0;
     for (uint32_t m = 2; m <= list.degree; m++) {
         entries[n++] = m;
-        entries[n++] = TOP;
+        entries[n++] = TOP + 16 * list.gaps;
     }
     sink = (uint32_t)fenyurka_write(list.floor, entries, n, buffer, sizeof buffer).length;
 }
@@ -130,6 +135,7 @@ static const struct {
     {"fenyurka_quotients", quotients, STATED},
     {"fenyurka_t_value", t_value, STATED},
     {"fenyurka_count_t_value", count_t_value, STATED},
+    {"fenyurka_sum_of_gaps", sum_of_gaps, STATED},
     {"fenyurka_points", points, STATED},
     {"fenyurka_open", open, STATED},
     {"fenyurka_lookup", lookup, STATED},
@@ -143,12 +149,13 @@ int main(void)
 {
     size_t most[CALLS] = {0}, none = taken_by(nothing);
     int above = 0;
-    for (list.floor = 0; list.floor <= 32; list.floor += 32)
-        for (list.degree = 2; list.degree <= 16; list.degree++)
-            for (int i = 0; i < CALLS; i++) {
-                size_t taken = taken_by(calls[i].call) - none;
-                most[i] = taken > most[i] ? taken : most[i];
-            }
+    for (list.gaps = 0; list.gaps <= 1; list.gaps++)
+        for (list.floor = 0; list.floor <= 32; list.floor += 32)
+            for (list.degree = 2; list.degree <= 16; list.degree++)
+                for (int i = 0; i < CALLS; i++) {
+                    size_t taken = taken_by(calls[i].call) - none;
+                    most[i] = taken > most[i] ? taken : most[i];
+                }
     for (int i = 0; i < CALLS; i++) {
         printf("%-23s %6zu bytes of stack, the header says less than %zu\n", calls[i].name, most[i], calls[i].stated);
         above |= most[i] >= calls[i].stated;

@@ -1,12 +1,13 @@
 -- Where a degree's body lies in a catalogue, or why a lookup is refused; the answers of a lookup are read off it.
 -- A lookup's answer is a function of where the body lies, refusals and all; a body that is found is within the file. Assumes nothing.
 use mathlib.Core.Path.{_≡_, refl, ap}
+use mathlib.Core.Bool.{Bool, false}
 use mathlib.Core.List.{List, []}
 use Prim.Native.Nat.{ℕ, _+_, _*_, _≤_}
 use native.Mathlib.Omega.{arith}
 use lib.ListN.{length, take, drop}
 use Rattle.definitions.specs.Answers.{refusalNumber, unless}
-use Rattle.definitions.specs.Catalogue.{Entry, bodySize, rowSize, looking, lookupNumbers, lookupPart, readerRefusal, readerTop}
+use Rattle.definitions.specs.Catalogue.{Entry, bodySize, rowSize, looking, lookupNumbers, lookupPart, readerRefusal, readerTop, readerGaps}
 use Rattle.definitions.specs.declared.Refusal.{Refusal}
 use Rattle.definitions.specs.declared.Lookup.{Lookup}
 use Rattle.definitions.specs.declared.Lookup.the-variants.{Body, NoBody}
@@ -19,7 +20,7 @@ use Rattle.catalogue.specs.declared.seek.Located.the-variants.{At, Missi
 
 -- The body of an entry.
 abbrev pub placeOf : Entry → BodyPlace
-placeOf e = record { offset = e .offset; size = bodySize e; stride = rowSize (e .degree) (e .top); top = e .top; rows = e .rows }
+placeOf e = record { offset = e .offset; size = bodySize e; stride = rowSize (e .degree) (e .top) (e .gaps); top = e .top; gaps = e .gaps; rows = e .rows }
 
 -- The place of the degree's body, or the lookup's refusal.
 unfoldable pub locating : List ℕ → ℕ → Located
@@ -39,7 +40,7 @@ module _ (s : List ℕ) (m : ℕ) where
 -- ---- the answers of a lookup
 
 abbrev pub numbersOf : Located → Lookup
-numbersOf (At b) = Body (b .top) (b .rows)
+numbersOf (At b) = Body (b .top) (b .gaps) (b .rows)
 numbersOf (Missing r) = NoBody r
 
 abbrev pub partOf : List ℕ → Located → List ℕ
@@ -53,6 +54,10 @@ refusalOf (Missing r) = refusalNumber r
 abbrev pub topOf : Located → ℕ
 topOf (At b) = b .top
 topOf (Missing r) = 0
+
+abbrev pub gapsOf : Located → Bool
+gapsOf (At b) = b .gaps
+gapsOf (Missing r) = false
 
 module _ (s : List ℕ) (m : ℕ) where
   pub located-numbers : numbersOf (locating s m) ≡ lookupNumbers s m
@@ -71,13 +76,17 @@ module _ (s : List ℕ) (m : ℕ) where
   unfolding locating readerTop
   located-top = unless-map topOf (looking s m) Missing (At (placeOf (entryFor s m)))
 
+  pub located-gaps : gapsOf (locating s m) ≡ readerGaps s m
+  unfolding locating readerGaps
+  located-gaps = unless-map gapsOf (looking s m) Missing (At (placeOf (entryFor s m)))
+
 -- ---- a body that is found
 
 -- It lies within the file, T is lawful, and its sizes are those of the degree asked for.
 pub record LawfulPlace (s : List ℕ) (m : ℕ) (b : BodyPlace) : Type 0 where
   pub within : b .offset + b .size ≤ length s
   pub lawful-top : LawfulTop (b .top)
-  pub stride-is : b .stride ≡ rowSize m (b .top)
+  pub stride-is : b .stride ≡ rowSize m (b .top) (b .gaps)
   pub size-is : b .size ≡ b .rows * b .stride
 
 place-lawful : (s : List ℕ) (m : ℕ) → NoneApplies (looking s m) → LawfulPlace s m (placeOf (entryFor s m))
@@ -86,7 +95,7 @@ place-lawful s m n =
     record {
       within = found .lawful .within;
       lawful-top = found .lawful .lawful-top;
-      stride-is = ap (λ (k : ℕ). rowSize k (entryFor s m .top)) (found .degree-is);
+      stride-is = ap (λ (k : ℕ). rowSize k (entryFor s m .top) (entryFor s m .gaps)) (found .degree-is);
       size-is = refl;
     }
 

@@ -19,15 +19,16 @@ pub fn open(file: &[u8]) -> Opening
     Opening::Entries(bytes::byte(file, 0))
 }
 
-// The top dimension and the row count of a degree's body.
+// The top dimension, the kind and the row count of a degree's body.
 pub fn lookup(file: &[u8], degree: u32) -> Lookup
     ensures { λ r. ⌜ r ≡ lookupNumbers (now (file .entry)) degree ⌝ }
 {
     match seek::locate(file, degree) {
         Located::At(found) => {
             let top = found.top;
+            let gaps = found.gaps;
             let rows = found.rows;
-            Lookup::Body(top, rows)
+            Lookup::Body(top, gaps, rows)
         }
         Located::Missing(refusal) => Lookup::NoBody(refusal),
     }

@@ -9,12 +9,14 @@ ghost use lib.ListN.{length};
 ghost use Rattle.definitions.specs.Catalogue.{contentsEnd, entryOf};
 ghost use Rattle.catalogue.specs.Seek.{locating};
 
-// A body: its place in the file and its size, the size of a row (from one row to the next), the top dimension and the row count.
+// A body: its place in the file and its size, the size of a row (from one row to the next), the top dimension, whether the rows have Δ, and the row
+// count.
 pub struct BodyPlace {
     pub offset: usize,
     pub size: usize,
     pub stride: usize,
     pub top: u32,
+    pub gaps: bool,
     pub rows: u32,
 }
 
@@ -59,8 +61,9 @@ pub fn locate(file: &[u8], degree: u32) -> Located
     Located::At(BodyPlace {
         offset: e.offset as usize,
         size: entries::body_size(e),
-        stride: sizes::row_size(e.degree, e.top),
+        stride: sizes::row_size(e.degree, e.top, e.gaps),
         top: e.top,
+        gaps: e.gaps,
         rows: e.rows,
     })
 }

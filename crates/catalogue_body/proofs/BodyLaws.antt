@@ -27,17 +27,17 @@ use Rattle.cursor.specs.declared.reading.Portion.{Portion}
 
 -- ---- lawful rows
 
-module _ (m top : ℕ) (a b : List (List ℕ)) (h : LawfulRows m top (a ++ b)) where
-  lawful-first : LawfulRows m top a
-  lawful-first k l = subst (LawfulRow m top) (List·getD-append a b [] k l) (h k (omega (arith, length-append a b)))
+module _ (m top : ℕ) (gaps : Bool) (a b : List (List ℕ)) (h : LawfulRows m top gaps (a ++ b)) where
+  lawful-first : LawfulRows m top gaps a
+  lawful-first k l = subst (LawfulRow m top gaps) (List·getD-append a b [] k l) (h k (omega (arith, length-append a b)))
 
-  lawful-rest : LawfulRows m top b
-  lawful-rest k l = subst (LawfulRow m top) (getD-append-add a b k []) (h (length a + k) (omega (arith, length-append a b)))
+  lawful-rest : LawfulRows m top gaps b
+  lawful-rest k l = subst (LawfulRow m top gaps) (getD-append-add a b k []) (h (length a + k) (omega (arith, length-append a b)))
 
 -- ---- the turns
 
 abbrev pub sizeOf : Selection → ℕ
-sizeOf l = rowSize (l .degree) (l .top)
+sizeOf l = rowSize (l .degree) (l .top) (l .gaps)
 
 -- The bytes of rows of a list.
 abbrev bytes : Selection → List (List ℕ) → List ℕ
@@ -64,8 +64,8 @@ underway-start l s at lawful = record {
 }
 
 module _ (l : Selection) (lawful : LawfulList l) (s : List ℕ) (at : ℕ) (room : at + length (ranked l) * sizeOf l ≤ length s) where
-  bytes-length : (rows : List (List ℕ)) → LawfulRows (l .degree) (l .top) rows → length (bytes l rows) ≡ length rows * sizeOf l
-  bytes-length rows h = rows-length (l .degree) (l .top) (lawful .top .low) rows h
+  bytes-length : (rows : List (List ℕ)) → LawfulRows (l .degree) (l .top) (l .gaps) rows → length (bytes l rows) ≡ length rows * sizeOf l
+  bytes-length rows h = rows-length (l .degree) (l .top) (l .gaps) (lawful .top .low) rows h
 
   module _ {more : Bool} {done : ℕ} {c : Cursor} {t : List ℕ} (u : Underway l s at more done c t) where
     -- Nothing is left: the body is written.
@@ -76,12 +76,12 @@ module _ (l : Selection) (lawful : LawfulList l) (s : List ℕ) (at : ℕ) (room
     unfolding bodyBytes rankedList
     all-written e = u .file ∙ ap (λ (rows : List (List ℕ)). over at (bytes l rows) s) (reads-end (u .reads) (u .ends e))
 
-    all-lawful : LawfulRows (l .degree) (l .top) (u .rows ++ left c)
-    all-lawful = subst (LawfulRows (l .degree) (l .top)) (sym (u .reads .whole)) (ranked-lawful l (lawful .degree) (lawful .top))
+    all-lawful : LawfulRows (l .degree) (l .top) (l .gaps) (u .rows ++ left c)
+    all-lawful = subst (LawfulRows (l .degree) (l .top) (l .gaps)) (sym (u .reads .whole)) (ranked-lawful l (lawful .degree) (lawful .top))
 
     long : at + length (bytes l (u .rows)) ≤ length s
     long =
-        let size = bytes-length (u .rows) (lawful-first (l .degree) (l .top) (u .rows) (left c) all-lawful) in
+        let size = bytes-length (u .rows) (lawful-first (l .degree) (l .top) (l .gaps) (u .rows) (left c) all-lawful) in
         let whole = ap length (u .reads .whole) in
         let most = mul-le-mul-right {m = length (u .rows)} {n = length (ranked l)} (sizeOf l) (omega (arith, length-append (u .rows) (left c))) in
         omega arith
@@ -100,13 +100,13 @@ module _ (l : Selection) (lawful : LawfulList l) (s : List ℕ) (at : ℕ) (room
       next-whole : (u .rows ++ portion c r) ++ left (r .next) ≡ ranked l
       next-whole = next-reads h (u .reads) .whole
 
-      both-lawful : LawfulRows (l .degree) (l .top) (u .rows ++ portion c r)
+      both-lawful : LawfulRows (l .degree) (l .top) (l .gaps) (u .rows ++ portion c r)
       both-lawful =
-          lawful-first (l .degree) (l .top) (u .rows ++ portion c r) (left (r .next))
-          (subst (LawfulRows (l .degree) (l .top)) (sym next-whole) (ranked-lawful l (lawful .degree) (lawful .top)))
+          lawful-first (l .degree) (l .top) (l .gaps) (u .rows ++ portion c r) (left (r .next))
+          (subst (LawfulRows (l .degree) (l .top) (l .gaps)) (sym next-whole) (ranked-lawful l (lawful .degree) (lawful .top)))
 
-      pub handed-lawful : LawfulRows (l .degree) (l .top) handed
-      handed-lawful = rw handed-is (lawful-rest (l .degree) (l .top) (u .rows) (portion c r) both-lawful)
+      pub handed-lawful : LawfulRows (l .degree) (l .top) (l .gaps) handed
+      handed-lawful = rw handed-is (lawful-rest (l .degree) (l .top) (l .gaps) (u .rows) (portion c r) both-lawful)
 
       counted : length (u .rows ++ portion c r) ≡ done + r .rows
       counted = length-append (u .rows) (portion c r) ∙ ap₂ _+_ (u .count) (portion-length h)
@@ -119,7 +119,7 @@ module _ (l : Selection) (lawful : LawfulList l) (s : List ℕ) (at : ℕ) (room
 
       written-length : length (bytes l (u .rows)) ≡ done * sizeOf l
       written-length =
-          bytes-length (u .rows) (lawful-first (l .degree) (l .top) (u .rows) (left c) all-lawful) ∙ ap (λ (n : ℕ). n * sizeOf l) (u .count)
+          bytes-length (u .rows) (lawful-first (l .degree) (l .top) (l .gaps) (u .rows) (left c) all-lawful) ∙ ap (λ (n : ℕ). n * sizeOf l) (u .count)
 
       pub both-fit : at + done * sizeOf l + r .rows * sizeOf l ≤ length s
       both-fit =

@@ -16,11 +16,11 @@ use definitions::Selection;
 pub fn write_body(list: Selection, rows: &mut [u32], file: &mut [u8], at: usize) -> usize
     requires { ⌜ LawfulList list ⌝ }
     requires { ⌜ rowWidth list ≤ length (now rows) ⌝ }
-    requires { ⌜ at + length (ranked list) * rowSize (list .degree) (list .top) ≤ length (now file) ⌝ }
+    requires { ⌜ at + length (ranked list) * rowSize (list .degree) (list .top) (list .gaps) ≤ length (now file) ⌝ }
     ensures { λ r. ⌜ r ≡ length (ranked list) ⌝ }
     ensures { λ _. ⌜ now (file .exit) ≡ over at (bodyBytes (rankedList list)) (now (file .entry)) ⌝ }
 {
-    let size = sizes::row_size(list.degree, list.top);
+    let size = sizes::row_size(list.degree, list.top, list.gaps);
     let mut here = reading::start(list);
     let mut more = true;
     let mut done: usize = 0;

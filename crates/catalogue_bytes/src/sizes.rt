@@ -1,15 +1,14 @@
 // Sizes and offsets in a catalogue, in bytes. They stand nowhere else in the code.
 ghost use mathlib.Core.Path.{_≡_};
-ghost use Prim.Native.Nat.{suc, _-_, _≤_};
-ghost use Rattle.definitions.specs.Ranking.{leastTop};
-ghost use Rattle.definitions.specs.Catalogue.{numberSize, countSize, entrySize, rowSize};
+ghost use Prim.Native.Nat.{_≤_};
+ghost use Rattle.definitions.specs.Catalogue.{numberSize, countSize, entrySize, valuesSize, rowSize};
 ghost use Rattle.catalogue_laws.specs.Sizes.{widest};
 ghost use Rattle.number_laws.specs.Bounds.{LawfulTop};
 
 // The contents begin behind the first byte, which says how many entries there are.
 pub const FIRST_ENTRY: usize = 1;
 
-// In an entry, behind the degree: T, and behind T the row count.
+// In an entry, behind the degree: T with the kind, and behind these the row count.
 pub const TOP_OFFSET: usize = 1;
 
 pub const COUNT_OFFSET: usize = 2;
@@ -43,14 +42,15 @@ pub fn entry_size(degree: u32) -> usize
 // t(3) .. t(T), a byte each.
 pub fn value_count(top: u32) -> usize
     requires { ⌜ LawfulTop top ⌝ }
-    ensures { λ r. ⌜ r ≡ suc top - leastTop ⌝ }
+    ensures { λ r. ⌜ r ≡ valuesSize top ⌝ }
 {
     top as usize + 1 - limits::LEAST_TOP as usize
 }
 
-pub fn row_size(degree: u32, top: u32) -> usize
+// With Δ a row has one byte more.
+pub fn row_size(degree: u32, top: u32, gaps: bool) -> usize
     requires { ⌜ LawfulTop top ⌝ }
-    ensures { λ r. ⌜ r ≡ rowSize degree top ⌝ }
+    ensures { λ r. ⌜ r ≡ rowSize degree top gaps ⌝ }
 {
-    NUMBERS * number_size(degree) + value_count(top)
+    NUMBERS * number_size(degree) + value_count(top) + gaps as usize
 }

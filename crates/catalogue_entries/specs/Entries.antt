@@ -7,6 +7,7 @@ use native.Mathlib.Numerals.{unary-clauses}
 use native.Mathlib.Omega.{arith}
 use lib.ListN.{length, getD}
 use Rattle.definitions.specs.declared.Selection.{Selection}
+use Rattle.definitions.specs.Catalogue.{topOf, gapsOf}
 use Rattle.definitions.specs.Writing.{entriesOf, lawfulDegrees, lawfulTops}
 use Rattle.writing_laws.specs.RankedFile.{noEntry}
 use Rattle.catalogue_entries.specs.declared.Lawful.{Lawful}
@@ -31,12 +32,13 @@ module _ (floor : ℕ) where
   entry-within e k h = omega (arith, entries-length e, h)
 
   pub entry-is : (e : List ℕ) (k : ℕ) → k < length (entriesOf floor e)
-      → entryIn floor e k ≡ record { degree = getD e (2 * k) 0; top = getD e (2 * k + 1) 0; floor = floor }
+      → let n = getD e (2 * k + 1) 0 in
+      entryIn floor e k ≡ record { degree = getD e (2 * k) 0; top = topOf n; floor = floor; gaps = gapsOf n }
   unfolding entriesOf
   entry-is [] k h = absurd (omega arith)
   entry-is (m ∷ []) zero h = refl
   entry-is (m ∷ []) (suc k) h = absurd (omega arith)
-  entry-is (m ∷ top ∷ e) zero h = refl
-  entry-is (m ∷ top ∷ e) (suc k) h =
+  entry-is (m ∷ n ∷ e) zero h = refl
+  entry-is (m ∷ n ∷ e) (suc k) h =
       let rest = entry-is e k (omega arith) in
       simp unary-clauses (simp unary-clauses at rest)

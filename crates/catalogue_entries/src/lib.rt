@@ -1,5 +1,5 @@
-// The entries that a catalogue is asked for, in a lent slice that comes unchecked: degree, T, degree, T, .., each at the floor of the file. Customers
-// call nothing here.
+// The entries that a catalogue is asked for, in a lent slice that comes unchecked: degree, T, degree, T, .., with T + 16 for T where the rows are to
+// have Δ, each at the floor of the file. Customers call nothing here.
 ghost use mathlib.Core.Path.{_≡_};
 ghost use mathlib.Core.Bool.{_&&_};
 ghost use Prim.Native.Nat.{ℕ, _+_, _<_};
@@ -15,8 +15,8 @@ pub fn count(entries: &[u32]) -> usize
     entries.len() / 2 + entries.len() % 2
 }
 
-// T of the entry whose degree stands at a place; where it is missing 0, which is no lawful T.
-fn top_behind(entries: &[u32], place: usize) -> u32
+// What stands behind the degree at a place: T, or T + 16; where it is missing 0, which is no lawful T.
+fn mark_behind(entries: &[u32], place: usize) -> u32
     requires { ⌜ place < length (now entries) ⌝ }
     ensures { λ r. ⌜ r ≡ getD (now (entries .entry)) (place + 1) 0 ⌝ }
 {
@@ -32,10 +32,12 @@ pub fn entry(floor: u32, entries: &[u32], k: usize) -> Selection
     ensures { λ r. ⌜ r ≡ entryIn floor (now (entries .entry)) k ⌝ }
 {
     let place = 2 * k;
+    let mark = mark_behind(entries, place);
     Selection {
         degree: entries[place],
-        top: top_behind(entries, place),
+        top: limits::top_of(mark),
         floor: floor,
+        gaps: limits::has_gaps(mark),
     }
 }
 

@@ -10,7 +10,7 @@ use catalogue_bytes::sizes;
 use catalogue_numbers::write_number;
 use definitions::Selection;
 
-// The degree, T, the row count and the place of the body.
+// The degree, T with the kind, the row count and the place of the body.
 pub fn write_entry(file: &mut [u8], at: usize, list: Selection, rows: u32, offset: u32)
     requires { ⌜ LawfulDegree (list .degree) × LawfulTop (list .top) ⌝ }
     requires { ⌜ at + entrySize (list .degree) ≤ length (now file) ⌝ }
@@ -18,7 +18,7 @@ pub fn write_entry(file: &mut [u8], at: usize, list: Selection, rows: u32, offse
 {
     let width = sizes::count_size(list.degree);
     file[at] = list.degree as u8;
-    file[at + sizes::TOP_OFFSET] = list.top as u8;
+    file[at + sizes::TOP_OFFSET] = limits::marked_top(list.top, list.gaps) as u8;
     write_number(file, at + sizes::COUNT_OFFSET, width, rows);
     write_number(
         file,

@@ -14,13 +14,14 @@ use catalogue_bytes::sizes;
 use catalogue_numbers::write_bytes;
 use catalogue_numbers::write_number;
 use definitions::Selection;
+use row_order::width::width_of;
 
-// The row whose numbers stand at a place of a slice: p without its leading term, q and the step, then the t-values.
+// The row whose numbers stand at a place of a slice: p without its leading term, q and the step, then the numbers that rank it.
 fn write_row(file: &mut [u8], at: usize, list: Selection, rows: &[u32], from: usize)
     requires { ⌜ LawfulDegree (list .degree) × LawfulTop (list .top) ⌝ }
     requires { ⌜ from + rowWidth list ≤ length (now rows) ⌝ }
-    requires { ⌜ LawfulRow (list .degree) (list .top) (take (rowWidth list) (drop from (now rows))) ⌝ }
-    requires { ⌜ at + rowSize (list .degree) (list .top) ≤ length (now file) ⌝ }
+    requires { ⌜ LawfulRow (list .degree) (list .top) (list .gaps) (take (rowWidth list) (drop from (now rows))) ⌝ }
+    requires { ⌜ at + rowSize (list .degree) (list .top) (list .gaps) ≤ length (now file) ⌝ }
     ensures { λ _. ⌜ now (file .exit) ≡ over at (rowBytes (list .degree) (take (rowWidth list) (drop from (now (rows .entry))))) (now (file .entry)) ⌝ }
 {
     let degree = list.degree;
@@ -28,13 +29,13 @@ fn write_row(file: &mut [u8], at: usize, list: Selection, rows: &[u32], from: us
     write_number(file, at, width, rows[from] - (1 << degree));
     write_number(file, at + width, width, rows[from + 1]);
     write_number(file, at + 2 * width, width, rows[from + 2]);
-    let values = sizes::value_count(list.top);
+    let ranks = sizes::value_count(list.top) + list.gaps as usize;
     write_bytes(
         file,
         at + sizes::NUMBERS * width,
         rows,
         from + sizes::NUMBERS,
-        values,
+        ranks,
     );
 }
 
@@ -42,13 +43,13 @@ fn write_row(file: &mut [u8], at: usize, list: Selection, rows: &[u32], from: us
 pub fn write_rows(file: &mut [u8], at: usize, list: Selection, rows: &[u32], count: usize)
     requires { ⌜ LawfulDegree (list .degree) × LawfulTop (list .top) ⌝ }
     requires { ⌜ count * rowWidth list ≤ length (now rows) ⌝ }
-    requires { ⌜ LawfulRows (list .degree) (list .top) (rowsOf (rowWidth list) count (now rows)) ⌝ }
-    requires { ⌜ at + count * rowSize (list .degree) (list .top) ≤ length (now file) ⌝ }
+    requires { ⌜ LawfulRows (list .degree) (list .top) (list .gaps) (rowsOf (rowWidth list) count (now rows)) ⌝ }
+    requires { ⌜ at + count * rowSize (list .degree) (list .top) (list .gaps) ≤ length (now file) ⌝ }
     ensures { λ _. ⌜ now (file .exit)
         ≡ over at (join (map (rowBytes (list .degree)) (rowsOf (rowWidth list) count (now (rows .entry))))) (now (file .entry)) ⌝ }
 {
-    let size = sizes::row_size(list.degree, list.top);
-    let width = list.top as usize + 1;
+    let size = sizes::row_size(list.degree, list.top, list.gaps);
+    let width = width_of(list);
     let mut k = 0;
     while k < count {
         write_row(file, at + k * size, list, rows, k * width);

@@ -16,7 +16,7 @@ use Rattle.catalogue_laws.specs.Files.{lists-few}
 use Rattle.writing_laws.specs.Few.{ranked-count-fits}
 use Rattle.writing_laws.specs.RankedFile.{LawfulEntries, noEntry, lists-lawful}
 use Rattle.writing_laws.specs.Turns.{lists, Filing, filing-start, filing-turn, filing-end, entry-now, body-fits, entry-before, place-small}
-use Rattle.search.specs.Frame.{LawfulList}
+use Rattle.search.specs.Frame.{LawfulList, width-most}
 
 -- ---- one list
 
@@ -31,7 +31,7 @@ pub record ListAsks (x : Selection) (place at : ℕ) (t : List ℕ) : Type 0 whe
   pub short : rowWidth x ≤ longestRow
   pub before : place + entrySize (x .degree) ≤ at
   pub small : at < 256 ^ offsetSize
-  pub fits : at + length (ranked x) * rowSize (x .degree) (x .top) ≤ length t
+  pub fits : at + length (ranked x) * rowSize (x .degree) (x .top) (x .gaps) ≤ length t
 
 -- ---- all lists
 
@@ -75,16 +75,17 @@ module _ (ls : List Selection) (lawful : LawfulEntries 0 ls) where
       pub list-asks : ListAsks x place at t
       list-asks =
           let l = entry-now ls lawful s room k place at t f inside in
+          let list : LawfulList (getD ls k noEntry) = record { degree = l .degree-lawful; top = l .top-lawful } in
           rw read (record {
-            lawful = record { degree = l .degree-lawful; top = l .top-lawful };
-            short = omega (arith, l .top-lawful .high);
+            lawful = list;
+            short = width-most list;
             before = entry-before ls lawful s room k place at t f inside;
             small = place-small ls lawful s room k place at t f inside;
             fits = body-fits ls lawful s room k place at t f inside;
           })
 
       -- The list is written.
-      pub filing-next : {n at′ : ℕ} {t′ : List ℕ} → n ≡ entrySize (x .degree) → at′ ≡ at + length (ranked x) * rowSize (x .degree) (x .top)
+      pub filing-next : {n at′ : ℕ} {t′ : List ℕ} → n ≡ entrySize (x .degree) → at′ ≡ at + length (ranked x) * rowSize (x .degree) (x .top) (x .gaps)
           → t′ ≡ over place (entryBytes (rankedList x) at) (over at (bodyBytes (rankedList x)) t) → Filing ls s (k + 1) (place + n) at′ t′
       filing-next a b c =
           let next : k + 1 ≡ suc k = omega arith in

@@ -17,7 +17,7 @@ use catalogue_fields::entry::write_entry;
 use definitions::Selection;
 
 // More rows than any list has, so that one search serves a whole list.
-const ROWS_AT_HAND: usize = 3072;
+const ROWS_AT_HAND: usize = 2884;
 
 const NUMBERS_AT_HAND: usize = ROWS_AT_HAND * limits::LONGEST_ROW;
 
@@ -35,13 +35,13 @@ fn write_list(list: Selection, rows: &mut [u32], file: &mut [u8], place: usize, 
     requires { ⌜ rowWidth list ≤ length (now rows) ⌝ }
     requires { ⌜ place + entrySize (list .degree) ≤ at ⌝ }
     requires { ⌜ at < 256 ^ offsetSize ⌝ }
-    requires { ⌜ at + length (ranked list) * rowSize (list .degree) (list .top) ≤ length (now file) ⌝ }
-    ensures { λ r. ⌜ r ≡ at + length (ranked list) * rowSize (list .degree) (list .top) ⌝ }
+    requires { ⌜ at + length (ranked list) * rowSize (list .degree) (list .top) (list .gaps) ≤ length (now file) ⌝ }
+    ensures { λ r. ⌜ r ≡ at + length (ranked list) * rowSize (list .degree) (list .top) (list .gaps) ⌝ }
     ensures { λ _. ⌜ now (file .exit) ≡ over place (entryBytes (rankedList list) at) (over at (bodyBytes (rankedList list)) (now (file .entry))) ⌝ }
 {
     let written = write_body(list, rows, file, at);
     write_entry(file, place, list, written as u32, offset_of(at));
-    at + written * sizes::row_size(list.degree, list.top)
+    at + written * sizes::row_size(list.degree, list.top, list.gaps)
 }
 
 // Writes list after list, each body behind the one before, from behind the contents on, and each entry behind the one before.

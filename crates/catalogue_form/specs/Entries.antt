@@ -3,4 +3,4 @@ use Rattle.definitions.specs.Catalogue.{Entry}
 use Rattle.catalogue_form.specs.declared.entries.Entry as declared
 
 abbrev pub asEntry : declared.Entry → Entry
-asEntry e = record { degree = e .degree; top = e .top; rows = e .rows; offset = e .offset }
+asEntry e = record { degree = e .degree; top = e .top; gaps = e .gaps; rows = e .rows; offset = e .offset }

@@ -12,6 +12,7 @@ ghost use Rattle.catalogue_form.specs.Entries.{asEntry};
 pub struct Entry {
     pub degree: u32,
     pub top: u32,
+    pub gaps: bool,
     pub rows: u32,
     pub offset: u32,
 }
@@ -24,9 +25,11 @@ pub fn entry_at(s: &[u8], place: usize) -> Entry
     let degree = bytes::byte(s, place);
     let width = sizes::count_size(degree);
     let count = place + sizes::COUNT_OFFSET;
+    let number = bytes::byte(s, place + sizes::TOP_OFFSET);
     Entry {
         degree,
-        top: bytes::byte(s, place + sizes::TOP_OFFSET),
+        top: limits::top_of(number),
+        gaps: limits::has_gaps(number),
         rows: bytes::number(s, count, width),
         offset: bytes::number(s, count + width, sizes::OFFSET_SIZE),
     }
@@ -37,7 +40,7 @@ pub fn body_size(e: Entry) -> usize
     requires { ⌜ LawfulTop (e .top) ⌝ }
     ensures { λ r. ⌜ r ≡ bodySize (asEntry e) ⌝ }
 {
-    e.rows as usize * sizes::row_size(e.degree, e.top)
+    e.rows as usize * sizes::row_size(e.degree, e.top, e.gaps)
 }
 
 // The byte at a place; 0 behind the end of the file.
@@ -85,7 +88,15 @@ pub fn entry_form(s: &[u8], e: Entry, last: u32, at: usize) -> bool
     if body_size(e) > s.len() - at {
         return false;
     }
-    rows::rows_form(s, e.rows as usize, e.degree, 1 << e.degree, e.top, at)
+    rows::rows_form(
+        s,
+        e.rows as usize,
+        e.degree,
+        1 << e.degree,
+        e.top,
+        e.gaps,
+        at,
+    )
 }
 
 // The n entries, each body directly behind the one before, from `start` on, and the last ends the file.

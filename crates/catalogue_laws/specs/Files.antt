@@ -12,12 +12,13 @@ use borrow.Author.Tests.{eq-eqb}
 use Rattle.definitions.specs.Number.{join}
 use Rattle.definitions.specs.Generator.{largestDegree}
 use Rattle.definitions.specs.Catalogue.{byteAt, numberAt, countSize, offsetSize, entrySize, rowSize, Entry, entryAt, firstEntry, behindEntry, behindEntries}
-use Rattle.definitions.specs.Catalogue.{contentsEnd, mostEntries, bodySize, rowForm, entryForm, entriesForm, catalogueForm}
+use Rattle.definitions.specs.Catalogue.{contentsEnd, mostEntries, bodySize, rowForm, entryForm, entriesForm, catalogueForm, markedTop, gapsOf, topOf}
 use Rattle.number_laws.specs.Bounds.{LawfulDegree, LawfulTop, lawfulDegree-is, lawfulTop-is}
 use Rattle.number_laws.specs.Every.{every-in}
 use Rattle.catalogue_laws.specs.Sizes.{longestEntry, longestRowSize, longestBody, count-most, entry-size-is, entry-size-most, row-size-most}
 use Rattle.definitions.specs.Writing.{bytesOf, Listed, bodyBytes, entryBytes, contentsBytes, behindLists, catalogueBytes}
-use Rattle.catalogue_laws.specs.Form.{entry-rows, catalogue-entries}
+use Rattle.catalogue_laws.specs.Kinds.{gaps-back, top-back}
+use Rattle.catalogue_laws.specs.Form.{entry-at-is, entry-rows, catalogue-entries}
 use Rattle.catalogue_laws.specs.Bytes.{Stands, stands-first, stands-rest, stands-whole, stands-byte, stands-number, bytes-length}
 use Rattle.catalogue_laws.specs.Written.{LawfulRows, row-written-form, rows-length, rows-stand}
 
@@ -26,7 +27,7 @@ pub record LawfulListed (l : Listed) : Type 0 where
   pub lawful-degree : LawfulDegree (l .degree)
   pub lawful-top : LawfulTop (l .top)
   pub few : length (l .rows) < 256 ^ countSize (l .degree)
-  pub each : LawfulRows (l .degree) (l .top) (l .rows)
+  pub each : LawfulRows (l .degree) (l .top) (l .gaps) (l .rows)
 
 -- Lists of ascending degrees, behind the degree `last`.
 pub data LawfulLists : ℕ → List Listed → Type 0 where
@@ -39,9 +40,9 @@ pub data LawfulLists : ℕ → List Listed → Type 0 where
 abbrev pub bodiesBytes : List Listed → List ℕ
 bodiesBytes ls = join (map bodyBytes ls)
 
-pub body-length : (l : Listed) → LawfulListed l → length (bodyBytes l) ≡ length (l .rows) * rowSize (l .degree) (l .top)
+pub body-length : (l : Listed) → LawfulListed l → length (bodyBytes l) ≡ length (l .rows) * rowSize (l .degree) (l .top) (l .gaps)
 unfolding bodyBytes
-body-length l h = rows-length (l .degree) (l .top) (h .lawful-top .low) (l .rows) (h .each)
+body-length l h = rows-length (l .degree) (l .top) (l .gaps) (h .lawful-top .low) (l .rows) (h .each)
 
 lists-most : {last : ℕ} {ls : List Listed} → last ≤ largestDegree → LawfulLists last ls → length ls + last ≤ largestDegree
 lists-most l none = omega arith
@@ -54,8 +55,8 @@ lists-few (more a h f) = omega (arith, h .lawful-degree .low, lists-most (h .law
 -- The rows of a list are few and short.
 pub body-most : (l : Listed) → LawfulListed l → length (bodyBytes l) ≤ longestBody
 body-most l h =
-    let size = row-size-most (l .degree) (l .top) (h .lawful-top .high) in
-    let most : length (l .rows) * rowSize (l .degree) (l .top) ≤ length (l .rows) * longestRowSize = mul-le-mul-left (length (l .rows)) size in
+    let size = row-size-most (l .degree) (l .top) (l .gaps) (h .lawful-top .high) in
+    let most : length (l .rows) * rowSize (l .degree) (l .top) (l .gaps) ≤ length (l .rows) * longestRowSize = mul-le-mul-left (length (l .rows)) size in
     omega (arith, h .few, count-most (l .degree), body-length l h)
 
 bodies-most : {last : ℕ} {ls : List Listed} → LawfulLists last ls → length (bodiesBytes ls) ≤ length ls * longestBody
@@ -84,14 +85,14 @@ behind-lists-most (l ∷ ls) i = omega (arith, behind-lists-most ls (i + entrySi
 
 -- The entry of a list whose body lies at `offset`.
 abbrev pub entryOfList : Listed → ℕ → Entry
-entryOfList l offset = record { degree = l .degree; top = l .top; rows = length (l .rows); offset = offset }
+entryOfList l offset = record { degree = l .degree; top = l .top; gaps = l .gaps; rows = length (l .rows); offset = offset }
 
 module _ (s : List ℕ) (i : ℕ) (l : Listed) (offset : ℕ) (h : LawfulListed l) (o : offset < 256 ^ offsetSize) (p : Stands s i (entryBytes l offset)) where
   abbrev w : ℕ
   w = countSize (l .degree)
 
   abbrev firsts : List ℕ
-  firsts = l .degree ∷ l .top ∷ []
+  firsts = l .degree ∷ markedTop (l .top) (l .gaps) ∷ []
 
   abbrev count : List ℕ
   count = bytesOf w (length (l .rows))
@@ -116,9 +117,18 @@ module _ (s : List ℕ) (i : ℕ) (l : Listed) (offset : ℕ) (h : LawfulListed 
       (subst (λ (n : ℕ). Stands s (i + 2 + n) (bytesOf offsetSize offset)) (bytes-length w (length (l .rows)))
       (stands-rest s (i + 2) count (bytesOf offsetSize offset) rest-stands))
 
+  -- The number that says T and the kind, and both read from it.
+  marked-is : byteAt s (i + 1) ≡ markedTop (l .top) (l .gaps)
+  marked-is = stands-byte s i firsts 1 firsts-stand (omega arith)
+
+  top-is : topOf (byteAt s (i + 1)) ≡ l .top
+  top-is = ap topOf marked-is ∙ top-back (l .top) (l .gaps) (h .lawful-top)
+
+  gaps-is : gapsOf (byteAt s (i + 1)) ≡ l .gaps
+  gaps-is = ap gapsOf marked-is ∙ gaps-back (l .top) (l .gaps) (h .lawful-top)
+
   pub entry-is : entryAt s i ≡ entryOfList l offset
-  unfolding entryAt
-  entry-is = rw (degree-is, stands-byte s i firsts 1 firsts-stand (omega arith), count-is, offset-is)
+  entry-is = sym (entry-at-is s i (entryOfList l offset) (sym degree-is) (sym top-is) (sym gaps-is) (sym count-is) (sym offset-is))
 
   pub behind-is : behindEntry s i ≡ i + entrySize (l .degree)
   behind-is = rw degree-is
@@ -129,13 +139,14 @@ module _ (s : List ℕ) (i : ℕ) (l : Listed) (offset : ℕ) (h : LawfulListed 
   entry-written-form last a b z =
       let m = l .degree in
       let top = l .top in
-      let stand = rows-stand m top (h .lawful-top .low) (l .rows) (h .each) s offset b in
+      let gaps = l .gaps in
+      let stand = rows-stand m top gaps (h .lawful-top .low) (l .rows) (h .each) s offset b in
       let degree-lawful = lawfulDegree-is m .1 (h .lawful-degree) in
       let top-lawful = lawfulTop-is top .1 (h .lawful-top) in
       rw entry-is
       (entry-rows s (entryOfList l offset) last offset degree-lawful a top-lawful refl (omega (arith, body-length l h))
-      ∙ every-in (length (l .rows)) (λ (k : ℕ). rowForm m top s (offset + k * rowSize m top))
-      (λ k r. row-written-form m top _ s (offset + k * rowSize m top) (h .lawful-degree) (h .lawful-top) (h .each k r) (stand k r)))
+      ∙ every-in (length (l .rows)) (λ (k : ℕ). rowForm m top s (offset + k * rowSize m top gaps))
+      (λ k r. row-written-form m top gaps _ s (offset + k * rowSize m top gaps) (h .lawful-degree) (h .lawful-top) (h .each k r) (stand k r)))
 
 -- ---- all entries
 

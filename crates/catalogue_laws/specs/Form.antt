@@ -14,10 +14,9 @@ use lib.ListN.{length}
 use borrow.Author.Tests.{leb-true, ltb-true, eqb-true, lt-ltb, le-ltb, lt-leb, le-leb, eq-eqb, ne-eqb}
 use Rattle.definitions.specs.Number.{every}
 use Rattle.definitions.specs.Generator.{lawfulDegree}
-use Rattle.definitions.specs.Ranking.{leastTop, lawfulTop}
-use Rattle.definitions.specs.Catalogue.{byteAt, numberAt, numberSize, countSize, offsetSize, entrySize, numbersSize, rowSize, Entry, entryAt, firstEntry}
-use Rattle.definitions.specs.Catalogue.{behindEntry}
-use Rattle.definitions.specs.Catalogue.{behindEntries}
+use Rattle.definitions.specs.Ranking.{lawfulTop}
+use Rattle.definitions.specs.Catalogue.{byteAt, numberAt, numberSize, countSize, offsetSize, entrySize, numbersSize, valuesSize, rowSize, Entry}
+use Rattle.definitions.specs.Catalogue.{gapsOf, topOf, entryAt, firstEntry, behindEntry, behindEntries}
 use Rattle.definitions.specs.Catalogue.{contentsEnd, bodySize, mostEntries, rowForm, entryForm, entriesForm, catalogueForm}
 use Rattle.number_laws.specs.Bounds.{LawfulDegree, LawfulTop, lawfulDegree-is, lawfulTop-is}
 use Rattle.catalogue_laws.specs.Sizes.{widest, entry-size-is}
@@ -54,7 +53,7 @@ numbersForm m s at = every 3 (λ (k : ℕ). ltb (numberAt (numberSize m) s (at +
 
 -- Each t is at most m.
 abbrev pub valuesForm : ℕ → ℕ → List ℕ → ℕ → Bool
-valuesForm m top s at = every (suc top - leastTop) (λ (k : ℕ). leb (byteAt s (at + numbersSize m + k)) m)
+valuesForm m top s at = every (valuesSize top) (λ (k : ℕ). leb (byteAt s (at + numbersSize m + k)) m)
 
 -- Both, as a walk tests them: with a number's width and 2^m at hand, and 'below m + 1' for 'at most m'.
 pub numbers-form-is : (m : ℕ) (s : List ℕ) (at w limit : ℕ) → w ≡ numberSize m → limit ≡ 2 ^ m
@@ -64,7 +63,7 @@ numbers-form-is m s at w limit e f = ap₂ (λ (v b : ℕ). every 3 (λ (k : ℕ
 below-is-at-most : (x m : ℕ) → ltb x (m + 1) ≡ leb x m
 below-is-at-most x m = rw add-one (leb·suc-suc x m)
 
-pub values-form-is : (m top : ℕ) (s : List ℕ) (at place n : ℕ) → place ≡ at + numbersSize m → n ≡ suc top - leastTop
+pub values-form-is : (m top : ℕ) (s : List ℕ) (at place n : ℕ) → place ≡ at + numbersSize m → n ≡ valuesSize top
     → every n (λ (k : ℕ). ltb (byteAt s (place + k)) (m + 1)) ≡ valuesForm m top s at
 values-form-is m top s at place n e f = simp (below-is-at-most, e, f)
 
@@ -78,8 +77,8 @@ module _ (m top : ℕ) (s : List ℕ) (at : ℕ) where
   row-values h = rw h
 
 -- The n rows of a body are of the form.
-abbrev pub rowsForm : ℕ → ℕ → List ℕ → ℕ → ℕ → Bool
-rowsForm m top s at n = every n (λ (k : ℕ). rowForm m top s (at + k * rowSize m top))
+abbrev pub rowsForm : ℕ → ℕ → Bool → List ℕ → ℕ → ℕ → Bool
+rowsForm m top gaps s at n = every n (λ (k : ℕ). rowForm m top s (at + k * rowSize m top gaps))
 
 -- ---- entries
 
@@ -91,7 +90,7 @@ pub record LawfulEntry (s : List ℕ) (e : Entry) : Type 0 where
   pub lawful-degree : LawfulDegree (e .degree)
   pub lawful-top : LawfulTop (e .top)
   pub within : e .offset + bodySize e ≤ length s
-  pub rows-form : rowsForm (e .degree) (e .top) s (e .offset) (e .rows) ≡ true
+  pub rows-form : rowsForm (e .degree) (e .top) (e .gaps) s (e .offset) (e .rows) ≡ true
 
 -- One entry's tests, read out.
 pub record EntryTests (s : List ℕ) (e : Entry) (last at : ℕ) : Type 0 where
@@ -145,7 +144,7 @@ module _ (s : List ℕ) (e : Entry) (last at : ℕ) where
           unfolding entryForm
           entry-size z = rw (d, lt-ltb last (e .degree) a, t, eq-eqb (e .offset) at o, lt-leb (at + bodySize e) (length s) z)
 
-          pub entry-rows : at + bodySize e ≤ length s → entryForm s e last at ≡ rowsForm (e .degree) (e .top) s at (e .rows)
+          pub entry-rows : at + bodySize e ≤ length s → entryForm s e last at ≡ rowsForm (e .degree) (e .top) (e .gaps) s at (e .rows)
           unfolding entryForm
           entry-rows z = rw (d, lt-ltb last (e .degree) a, t, eq-eqb (e .offset) at o, le-leb (at + bodySize e) (length s) z)
 
@@ -157,10 +156,10 @@ unfolding entryAt
 entry-at-degree s i = refl
 
 -- An entry whose fields were read at a place is the entry there.
-pub entry-at-is : (s : List ℕ) (i : ℕ) (e : Entry) → e .degree ≡ byteAt s i → e .top ≡ byteAt s (i + 1)
+pub entry-at-is : (s : List ℕ) (i : ℕ) (e : Entry) → e .degree ≡ byteAt s i → e .top ≡ topOf (byteAt s (i + 1)) → e .gaps ≡ gapsOf (byteAt s (i + 1))
     → e .rows ≡ numberAt (countSize (e .degree)) s (i + 2) → e .offset ≡ numberAt offsetSize s (i + 2 + countSize (e .degree)) → e ≡ entryAt s i
 unfolding entryAt
-entry-at-is s i e d t r o = rw (← d, ← t, ← r, ← o)
+entry-at-is s i e d t g r o = rw (← d, ← t, ← g, ← r, ← o)
 
 -- The fields of an entry that ends within the file do so too.
 pub entry-whole : (s : List ℕ) (i degree : ℕ) → behindEntry s i ≤ length s → degree ≡ byteAt s i

@@ -11,7 +11,7 @@ use borrow.Author.Tests.{eqb-false, eq-eqb, ne-eqb, not-false}
 use Rattle.definitions.specs.Generator.{lawfulDegree}
 use Rattle.definitions.specs.Answers.{refusalNumber}
 use Rattle.definitions.specs.Catalogue.{Entry, entryAt, contentsEnd, bodySize, catalogueForm, looking, entryOf, lookupNumbers, lookupPart, readerRefusal}
-use Rattle.definitions.specs.Catalogue.{readerTop}
+use Rattle.definitions.specs.Catalogue.{readerTop, readerGaps}
 use Rattle.definitions.specs.declared.Refusal.{Refusal}
 use Rattle.definitions.specs.declared.Refusal.the-variants.{WrongDegree, IllFormedCatalogue, DegreeMissing}
 use Rattle.definitions.specs.declared.Lookup.the-variants.{Body, NoBody}
@@ -59,10 +59,11 @@ module _ (s : List ℕ) (m : ℕ) where
 
 pub record Given (s : List ℕ) (m : ℕ) : Type 0 where
   pub finds : Finds s m
-  pub numbers-are : lookupNumbers s m ≡ Body (entryFor s m .top) (entryFor s m .rows)
+  pub numbers-are : lookupNumbers s m ≡ Body (entryFor s m .top) (entryFor s m .gaps) (entryFor s m .rows)
   pub part-is : lookupPart s m ≡ take (bodySize (entryFor s m)) (drop (entryFor s m .offset) s)
   pub refusal-is : readerRefusal s m ≡ 0
   pub top-is : readerTop s m ≡ entryFor s m .top
+  pub gaps-is : readerGaps s m ≡ entryFor s m .gaps
 
 pub record Refused (s : List ℕ) (m : ℕ) : Type 0 where
   pub refusal : Refusal
@@ -70,25 +71,28 @@ pub record Refused (s : List ℕ) (m : ℕ) : Type 0 where
   pub part-is : lookupPart s m ≡ []
   pub refusal-is : readerRefusal s m ≡ refusalNumber refusal
   pub top-is : readerTop s m ≡ 0
+  pub gaps-is : readerGaps s m ≡ false
 
 pub lookup-given : (s : List ℕ) (m : ℕ) → NoneApplies (looking s m) → Given s m
-unfolding lookupNumbers lookupPart readerRefusal readerTop
+unfolding lookupNumbers lookupPart readerRefusal readerTop readerGaps
 lookup-given s m n = record {
   finds = looking-found s m n;
   numbers-are = unless-given _ _ n;
   part-is = unless-given _ _ n;
   refusal-is = unless-given _ _ n;
   top-is = unless-given _ _ n;
+  gaps-is = unless-given _ _ n;
 }
 
 pub lookup-refused : (s : List ℕ) (m : ℕ) {r : Refusal} → Decides r (looking s m) → Refused s m
-unfolding lookupNumbers lookupPart readerRefusal readerTop
+unfolding lookupNumbers lookupPart readerRefusal readerTop readerGaps
 lookup-refused s m {r} d = record {
   refusal = r;
   numbers-are = unless-refused _ _ d;
   part-is = unless-refused _ _ d;
   refusal-is = unless-refused _ _ d;
   top-is = unless-refused _ _ d;
+  gaps-is = unless-refused _ _ d;
 }
 
 pub lookup-outcome : (s : List ℕ) (m : ℕ) → Given s m ⊎ Refused s m

@@ -2,6 +2,7 @@
 -- and a reader that hands out its rows. Degrees ascend, so the entry of a degree is the one that was made of its list.
 -- Assumes nothing.
 use mathlib.Core.Path.{_≡_, refl, sym, ap, ap₂, _∙_, subst}
+use mathlib.Core.Bool.{false}
 use mathlib.Core.List.{List, [], _∷_, _++_, map}
 use Prim.Native.Nat.{ℕ, zero, suc, _+_, _*_, _<_, _≤_}
 use native.Mathlib.Nat.{zero-add}
@@ -9,7 +10,7 @@ use native.Mathlib.Omega.{arith}
 use lib.ListN.{length, getD, take, drop, replicate}
 use Rattle.definitions.specs.Number.{numbers}
 use Rattle.definitions.specs.Catalogue.{byteAt, entrySize, rowSize, Entry, entryAt, firstEntry, bodySize, rowAt, entryFrom, entryOf, opening, lookupNumbers}
-use Rattle.definitions.specs.Catalogue.{lookupPart, readerTop}
+use Rattle.definitions.specs.Catalogue.{lookupPart, readerTop, readerGaps}
 use Rattle.definitions.specs.declared.NextRow.{NextRow}
 use Rattle.definitions.specs.declared.NextRow.the-variants.{Found, End}
 use Rattle.definitions.specs.declared.Opening.the-variants.{Entries}
@@ -27,7 +28,7 @@ use Rattle.catalogue_laws.specs.Files.{LawfulListed, LawfulLists, none, 
 use Rattle.catalogue_laws.specs.Files.{body-length, catalogue-laid, catalogue-count, catalogue-written}
 
 abbrev pub noList : Listed
-noList = record { degree = 0; top = 0; rows = [] }
+noList = record { degree = 0; top = 0; gaps = false; rows = [] }
 
 -- The list at j.
 abbrev pub listAt : List Listed → ℕ → Listed
@@ -125,8 +126,8 @@ module _ (ls : List Listed) (h : LawfulLists 0 ls) where
     entry-given : entryAt file (entryOf file (x .degree)) ≡ entryOfList x (placed .body-place)
     entry-given = ap (entryAt file) entry-found-at ∙ placed .is
 
-    pub written-numbers : lookupNumbers file (x .degree) ≡ Body (x .top) (length (x .rows))
-    written-numbers = given-back .numbers-are ∙ ap (λ (e : Entry). Body (e .top) (e .rows)) entry-given
+    pub written-numbers : lookupNumbers file (x .degree) ≡ Body (x .top) (x .gaps) (length (x .rows))
+    written-numbers = given-back .numbers-are ∙ ap (λ (e : Entry). Body (e .top) (e .gaps) (e .rows)) entry-given
 
     pub written-part : lookupPart file (x .degree) ≡ bodyBytes x
     written-part =
@@ -138,29 +139,30 @@ module _ (ls : List Listed) (h : LawfulLists 0 ls) where
 
     -- Each row of the body that the lookup gives is the listed one.
     row-given : (k : ℕ) → k < length (x .rows)
-        → rowAt (x .degree) (x .top) (bodyBytes x) (k * rowSize (x .degree) (x .top)) ≡ rowOf (getD (x .rows) k [])
+        → rowAt (x .degree) (x .top) (x .gaps) (bodyBytes x) (k * rowSize (x .degree) (x .top) (x .gaps)) ≡ rowOf (x .top) (x .gaps) (getD (x .rows) k [])
     unfolding bodyBytes
     row-given k r =
         let m = x .degree in
-        let size = rowSize m (x .top) in
+        let size = rowSize m (x .top) (x .gaps) in
         let d = placed .lawful in
         let row = getD (x .rows) k [] in
-        let p = rows-stand m (x .top) (d .lawful-top .low) (x .rows) (d .each) (bodyBytes x) 0 (stands-whole (bodyBytes x)) k r in
-        row-written m (x .top) row (bodyBytes x) (k * size) (d .lawful-degree) (d .lawful-top) (d .each k r)
+        let p = rows-stand m (x .top) (x .gaps) (d .lawful-top .low) (x .rows) (d .each) (bodyBytes x) 0 (stands-whole (bodyBytes x)) k r in
+        row-written m (x .top) (x .gaps) row (bodyBytes x) (k * size) (d .lawful-degree) (d .lawful-top) (d .each k r)
         (subst (λ (n : ℕ). Stands (bodyBytes x) n (rowBytes m row)) (zero-add (k * size)) p)
 
-    rows-given : bodyRows (x .degree) (x .top) (bodyBytes x) 0 (length (x .rows)) ≡ map (λ (r : List ℕ). Found (rowOf r)) (x .rows)
+    rows-given : bodyRows (x .degree) (x .top) (x .gaps) (bodyBytes x) 0 (length (x .rows)) ≡ map (λ (r : List ℕ). Found (rowOf (x .top) (x .gaps) r)) (x .rows)
     unfolding bodyRows
     rows-given =
-        let size = rowSize (x .degree) (x .top) in
-        map-numbers (λ (i : ℕ). Found (rowAt (x .degree) (x .top) (bodyBytes x) (i * size))) (λ (r : List ℕ). Found (rowOf r)) (x .rows) 0
-        (λ i a. ap Found (ap (λ (k : ℕ). rowAt (x .degree) (x .top) (bodyBytes x) (k * size)) (zero-add i) ∙ row-given i a))
+        let size = rowSize (x .degree) (x .top) (x .gaps) in
+        map-numbers (λ (i : ℕ). Found (rowAt (x .degree) (x .top) (x .gaps) (bodyBytes x) (i * size)))
+        (λ (r : List ℕ). Found (rowOf (x .top) (x .gaps) r)) (x .rows) 0
+        (λ i a. ap Found (ap (λ (k : ℕ). rowAt (x .degree) (x .top) (x .gaps) (bodyBytes x) (k * size)) (zero-add i) ∙ row-given i a))
 
     -- A reader hands out the listed rows, and then the end.
     pub written-rows : (n : ℕ)
-        → handsOut (length (x .rows) + n) (x .degree) (readerTop file (x .degree)) (lookupPart file (x .degree)) 0
-        ≡ map (λ (r : List ℕ). Found (rowOf r)) (x .rows) ++ replicate n End
+        → handsOut (length (x .rows) + n) (x .degree) (readerTop file (x .degree)) (readerGaps file (x .degree)) (lookupPart file (x .degree)) 0
+        ≡ map (λ (r : List ℕ). Found (rowOf (x .top) (x .gaps) r)) (x .rows) ++ replicate n End
     written-rows n =
-        reader-hands-out file (x .degree) (x .top) (length (x .rows)) n written-numbers
-        ∙ ap (λ (b : List ℕ). bodyRows (x .degree) (x .top) b 0 (length (x .rows)) ++ replicate n End) written-part
+        reader-hands-out file (x .degree) (x .top) (x .gaps) (length (x .rows)) n written-numbers
+        ∙ ap (λ (b : List ℕ). bodyRows (x .degree) (x .top) (x .gaps) b 0 (length (x .rows)) ++ replicate n End) written-part
         ∙ ap (λ (r : List NextRow). r ++ replicate n End) rows-given

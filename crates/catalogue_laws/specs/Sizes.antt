@@ -2,14 +2,17 @@
 -- a number of a degree fits its bytes. What else is said of catalogues cites these, so that other sizes change this page alone.
 -- Assumes nothing.
 use mathlib.Core.Path.{_≡_, refl}
+use mathlib.Core.Bool.{Bool}
 use Prim.Native.Nat.{ℕ, zero, suc, _+_, _-_, _*_, _^_, _<_, _≤_}
 use native.Mathlib.Nat.{mul-le-mul-left, mul-le-mul-right, suc-mul}
 use native.Mathlib.Omega.{arith}
 use lib.Pow.{pow-mono}
 use Rattle.definitions.specs.Generator.{largestDegree}
-use Rattle.definitions.specs.Ranking.{leastTop, largestTop}
-use Rattle.definitions.specs.Catalogue.{numberSize, countSize, offsetSize, entrySize, numbersSize, rowSize}
+use Rattle.definitions.specs.Number.{bit}
+use Rattle.definitions.specs.Ranking.{largestTop}
+use Rattle.definitions.specs.Catalogue.{numberSize, countSize, offsetSize, entrySize, numbersSize, valuesSize, rowSize}
 use Rattle.number_laws.specs.Bounds.{LawfulDegree, lead-high}
+use Rattle.number_laws.specs.Count.{bit-most}
 
 -- The most bytes of a number that is read into a machine word of 32 digits.
 abbrev pub widest : ℕ
@@ -20,7 +23,7 @@ abbrev pub longestEntry : ℕ
 longestEntry = 2 + widest + offsetSize
 
 abbrev pub longestRowSize : ℕ
-longestRowSize = 3 * widest + (suc largestTop - leastTop)
+longestRowSize = 3 * widest + valuesSize largestTop + 1
 
 abbrev pub rowCounts : ℕ
 rowCounts = 2 ^ 16
@@ -73,25 +76,29 @@ module _ (m : ℕ) where
   unfolding entrySize
   entry-size-most = omega (arith, count-size-most)
 
-  module _ (top : ℕ) where
-    pub row-size-is : rowSize m top ≡ numbersSize m + (suc top - leastTop)
+  module _ (top : ℕ) (gaps : Bool) where
+    pub row-size-is : rowSize m top gaps ≡ numbersSize m + valuesSize top + bit gaps
     unfolding rowSize
     row-size-is = refl
 
-    pub row-size-least : 1 ≤ rowSize m top
+    pub row-size-least : 1 ≤ rowSize m top gaps
     unfolding rowSize
     row-size-least = omega (arith, number-size-least)
 
-    pub row-size-most : top ≤ largestTop → rowSize m top ≤ longestRowSize
+    pub row-size-most : top ≤ largestTop → rowSize m top gaps ≤ longestRowSize
     unfolding rowSize
-    row-size-most h = omega (arith, number-size-most)
+    row-size-most h = omega (arith, number-size-most, bit-most gaps)
 
     -- A body whose rows are counted in a machine word of 32 digits has its size in one of 64.
-    pub body-size-fits : top ≤ largestTop → (rows : ℕ) → rows < 2 ^ 32 → rows * rowSize m top < 2 ^ 64
+    pub body-size-fits : top ≤ largestTop → (rows : ℕ) → rows < 2 ^ 32 → rows * rowSize m top gaps < 2 ^ 64
     body-size-fits h rows k =
         let size = row-size-most h in
-        let most : rows * rowSize m top ≤ rows * longestRowSize = mul-le-mul-left rows size in
+        let most : rows * rowSize m top gaps ≤ rows * longestRowSize = mul-le-mul-left rows size in
         omega arith
+
+-- The numbers and the t-values of a row that ends before n, whichever kind it is.
+pub values-within : (m top place n : ℕ) (gaps : Bool) → place + rowSize m top gaps ≤ n → place + numbersSize m + valuesSize top ≤ n
+values-within m top place n gaps h = omega (arith, row-size-is m top gaps)
 
 -- ---- a walk over n parts of w bytes each from `at` on, the last part first
 

@@ -39,12 +39,12 @@ module _ (ls : List Selection) (lawful : LawfulEntries 0 ls) where
         omega (arith, m .entries, m .sizes, contents-length (lists (drop k ls)) 0 contents, all-length, file-small ls lawful)
 
     pub measured-more : {x : Selection} {a b : ℕ} → k < length ls → x ≡ getD ls k noEntry → a ≡ entrySize (x .degree)
-        → b ≡ length (ranked x) * rowSize (x .degree) (x .top) → Measured ls (k + 1) (contents + a) (bodies + b)
+        → b ≡ length (ranked x) * rowSize (x .degree) (x .top) (x .gaps) → Measured ls (k + 1) (contents + a) (bodies + b)
     measured-more {a = a} {b} inside read entry body =
         let next : k + 1 ≡ suc k = omega arith in
         let a-is : a ≡ entrySize (getD ls k noEntry .degree) = entry ∙ ap (λ (l : Selection). entrySize (l .degree)) read in
-        let b-is : b ≡ length (ranked (getD ls k noEntry)) * rowSize (getD ls k noEntry .degree) (getD ls k noEntry .top) =
-        body ∙ ap (λ (l : Selection). length (ranked l) * rowSize (l .degree) (l .top)) read in
+        let b-is : b ≡ length (ranked (getD ls k noEntry)) * rowSize (getD ls k noEntry .degree) (getD ls k noEntry .top) (getD ls k noEntry .gaps) =
+        body ∙ ap (λ (l : Selection). length (ranked l) * rowSize (l .degree) (l .top) (l .gaps)) read in
         rw next (record {
           entries = rw a-is (sym (contents-turn ls k inside contents) ∙ m .entries);
           sizes = omega (arith, m .sizes, bodies-turn ls lawful k inside, b-is);

@@ -24,9 +24,9 @@ pub struct Measure {
 // The bytes of a list's body.
 fn body_size(list: Selection) -> usize
     requires { ⌜ LawfulList list ⌝ }
-    ensures { λ r. ⌜ r ≡ length (ranked list) * rowSize (list .degree) (list .top) ⌝ }
+    ensures { λ r. ⌜ r ≡ length (ranked list) * rowSize (list .degree) (list .top) (list .gaps) ⌝ }
 {
-    count_rows(list) * sizes::row_size(list.degree, list.top)
+    count_rows(list) * sizes::row_size(list.degree, list.top, list.gaps)
 }
 
 pub fn take_measure(floor: u32, entries: &[u32]) -> Measure

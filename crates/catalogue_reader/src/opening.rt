@@ -1,4 +1,4 @@
-// What a reader is made of: the number of the refusal, the place of its body in the file, with T, and the part itself.
+// What a reader is made of: the number of the refusal, the place of its body in the file, with T and the kind, and the part itself.
 use catalogue::seek;
 use catalogue::seek::Located;
 ghost use mathlib.Core.Path.{_≡_};
@@ -6,15 +6,16 @@ ghost use Prim.Native.Nat.{_+_, _≤_};
 ghost use lib.ListN.{length, take, drop};
 ghost use Rattle.catalogue_reader.specs.Opened.{Opened};
 
-// The number of the refusal, 0 where there is none; the part's place in the file, its size, and T.
+// The number of the refusal, 0 where there is none; the part's place in the file, its size, T, and whether the rows have Δ.
 pub struct OpenedPart {
     pub refusal: u32,
     pub offset: usize,
     pub size: usize,
     pub top: u32,
+    pub gaps: bool,
 }
 
-// The place of a degree's body; a part of no bytes, with T = 0, beside the number where the lookup is refused.
+// The place of a degree's body; a part of no bytes, with T = 0 and no Δ, beside the number where the lookup is refused.
 pub fn opened(file: &[u8], degree: u32) -> OpenedPart
     ensures { λ r. ⌜ Opened (now (file .entry)) degree r ⌝ }
 {
@@ -24,6 +25,7 @@ pub fn opened(file: &[u8], degree: u32) -> OpenedPart
             offset: found.offset,
             size: found.size,
             top: found.top,
+            gaps: found.gaps,
         },
         Located::Missing(refusal) => {
             let number = answers::refusal_number(refusal);
@@ -32,6 +34,7 @@ pub fn opened(file: &[u8], degree: u32) -> OpenedPart
                 offset: 0,
                 size: 0,
                 top: 0,
+                gaps: false,
             }
         }
     }

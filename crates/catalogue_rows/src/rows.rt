@@ -6,11 +6,11 @@ ghost use mathlib.Core.Path.{_≡_};
 ghost use Prim.Native.Nat.{_+_, _≤_};
 ghost use lib.ListN.{length};
 ghost use Rattle.definitions.specs.Ranking.{leastTop};
-ghost use Rattle.definitions.specs.Catalogue.{rowSize, atRow, tAt, rowAt};
+ghost use Rattle.definitions.specs.Catalogue.{numbersSize, valuesSize, rowSize, atRow, tAt, deltaAt, rowAt};
 ghost use Rattle.number_laws.specs.Bounds.{LawfulDegree, LawfulTop};
 
-pub fn at_row(body: &[u8], degree: u32, top: u32, place: usize) -> bool
-    ensures { λ r. ⌜ r ≡ atRow degree top (now (body .entry)) place ⌝ }
+pub fn at_row(body: &[u8], degree: u32, top: u32, gaps: bool, place: usize) -> bool
+    ensures { λ r. ⌜ r ≡ atRow degree top gaps (now (body .entry)) place ⌝ }
 {
     if !limits::is_lawful_degree(degree) {
         return false;
@@ -18,7 +18,7 @@ pub fn at_row(body: &[u8], degree: u32, top: u32, place: usize) -> bool
     if !limits::is_lawful_top(top) {
         return false;
     }
-    let size = sizes::row_size(degree, top);
+    let size = sizes::row_size(degree, top, gaps);
     if place % size != 0 {
         return false;
     }
@@ -30,7 +30,7 @@ pub fn at_row(body: &[u8], degree: u32, top: u32, place: usize) -> bool
 
 // t(s) of the row at a place; 0 above the top dimension.
 pub fn t_at(body: &[u8], degree: u32, top: u32, place: usize, s: u32) -> u32
-    requires { ⌜ LawfulTop top × (leastTop ≤ s) × (place + rowSize degree top ≤ length (now body)) ⌝ }
+    requires { ⌜ LawfulTop top × (leastTop ≤ s) × (place + numbersSize degree + valuesSize top ≤ length (now body)) ⌝ }
     ensures { λ r. ⌜ r ≡ tAt degree top (now (body .entry)) place s ⌝ }
 {
     if s > top {
@@ -40,9 +40,21 @@ pub fn t_at(body: &[u8], degree: u32, top: u32, place: usize, s: u32) -> u32
     bytes::byte(body, first + (s - limits::LEAST_TOP) as usize)
 }
 
-pub fn decode(body: &[u8], degree: u32, top: u32, place: usize) -> Row
-    requires { ⌜ LawfulDegree degree × LawfulTop top × (place + rowSize degree top ≤ length (now body)) ⌝ }
-    ensures { λ r. ⌜ r ≡ rowAt degree top (now (body .entry)) place ⌝ }
+// Δ of the row at a place; 0 where the rows have none.
+pub fn delta_at(body: &[u8], degree: u32, top: u32, gaps: bool, place: usize) -> u32
+    requires { ⌜ LawfulTop top × (place + rowSize degree top gaps ≤ length (now body)) ⌝ }
+    ensures { λ r. ⌜ r ≡ deltaAt degree top gaps (now (body .entry)) place ⌝ }
+{
+    if !gaps {
+        return 0;
+    }
+    let first = place + sizes::NUMBERS * sizes::number_size(degree);
+    bytes::byte(body, first + sizes::value_count(top))
+}
+
+pub fn decode(body: &[u8], degree: u32, top: u32, gaps: bool, place: usize) -> Row
+    requires { ⌜ LawfulDegree degree × LawfulTop top × (place + rowSize degree top gaps ≤ length (now body)) ⌝ }
+    ensures { λ r. ⌜ r ≡ rowAt degree top gaps (now (body .entry)) place ⌝ }
 {
     let width = sizes::number_size(degree);
     Row {
@@ -55,5 +67,6 @@ pub fn decode(body: &[u8], degree: u32, top: u32, place: usize) -> Row
         t6: t_at(body, degree, top, place, 6),
         t7: t_at(body, degree, top, place, 7),
         t8: t_at(body, degree, top, place, 8),
+        delta: delta_at(body, degree, top, gaps, place),
     }
 }

@@ -3,7 +3,7 @@ use Rattle.definitions.specs.Base.{Bool, true, false, List, [], _∷_, �
 use Rattle.definitions.specs.Base.{QuotientNotLinear, StepNotCoprime, ShortSlice, BeyondPeriod, IllFormedCatalogue, DegreeMissing, Judgement}
 use Rattle.definitions.specs.Base.{Accepted, Rejected, Uniformity, Value, Undefined, PageAnswer, Page, NoPage, PointsAnswer, Written}
 use Rattle.definitions.specs.Base.{NotWritten, Opening, Entries, Closed, Lookup, Body, NoBody, Row, NextRow, Found, End, NotAscending, FileTooLong}
-use Rattle.definitions.specs.Base.{FileAnswer, File, NoFile, QuotientTest, Degrees, Untested, StepBelowFloor, WrongFloor}
+use Rattle.definitions.specs.Base.{FileAnswer, File, NoFile, QuotientTest, Degrees, Untested, StepBelowFloor, WrongFloor, GapSum, Sum, NoSum}
 use Rattle.definitions.specs.Number.{bit}
 
 -- The number of each refusal, as documents 01 and 02 have it.
@@ -67,6 +67,10 @@ abbrev pub uniformityValues : Uniformity → List ℕ
 uniformityValues (Value t) = 0 ∷ t ∷ []
 uniformityValues (Undefined r) = refusalNumber r ∷ []
 
+abbrev pub gapSumValues : GapSum → List ℕ
+gapSumValues (Sum d) = 0 ∷ d ∷ []
+gapSumValues (NoSum r) = refusalNumber r ∷ []
+
 abbrev pub pageValues : PageAnswer → List ℕ
 pageValues (Page n further) = 0 ∷ 0 ∷ n ∷ bit further ∷ []
 pageValues (NoPage r) = refusalNumber r ∷ refusalDegree r ∷ []
@@ -80,12 +84,12 @@ openingValues (Entries n) = 0 ∷ n ∷ []
 openingValues (Closed r) = refusalNumber r ∷ []
 
 abbrev pub lookupValues : Lookup → List ℕ
-lookupValues (Body top rows) = 0 ∷ top ∷ rows ∷ []
+lookupValues (Body top gaps rows) = 0 ∷ top ∷ bit gaps ∷ rows ∷ []
 lookupValues (NoBody r) = refusalNumber r ∷ []
 
--- p, q, σ, t(3) .. t(8).
+-- p, q, σ, t(3) .. t(8), Δ.
 abbrev pub rowNumbers : Row → List ℕ
-rowNumbers r = r .p ∷ r .q ∷ r .step ∷ r .t3 ∷ r .t4 ∷ r .t5 ∷ r .t6 ∷ r .t7 ∷ r .t8 ∷ []
+rowNumbers r = r .p ∷ r .q ∷ r .step ∷ r .t3 ∷ r .t4 ∷ r .t5 ∷ r .t6 ∷ r .t7 ∷ r .t8 ∷ r .delta ∷ []
 
 -- No row is refused; at the end there are no values.
 abbrev pub nextRowValues : NextRow → List ℕ

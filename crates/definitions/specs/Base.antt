@@ -22,6 +22,8 @@ pub use Rattle.definitions.specs.declared.QuotientTest.{QuotientTest}
 pub use Rattle.definitions.specs.declared.QuotientTest.the-variants.{Degrees, Untested}
 pub use Rattle.definitions.specs.declared.Uniformity.{Uniformity}
 pub use Rattle.definitions.specs.declared.Uniformity.the-variants.{Value, Undefined}
+pub use Rattle.definitions.specs.declared.GapSum.{GapSum}
+pub use Rattle.definitions.specs.declared.GapSum.the-variants.{Sum, NoSum}
 pub use Rattle.definitions.specs.declared.PageAnswer.{PageAnswer}
 pub use Rattle.definitions.specs.declared.PageAnswer.the-variants.{Page, NoPage}
 pub use Rattle.definitions.specs.declared.PointsAnswer.{PointsAnswer}

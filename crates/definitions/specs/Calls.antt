@@ -1,16 +1,17 @@
--- Judging, the quotient test, a single t-value by either engine, pages and points: what each call answers and what each lent slice holds afterwards,
--- for every input. Assumes nothing.
+-- Judging, the quotient test, a single t-value by either engine, the sum of resolution gaps, pages and points: what each call answers and what each
+-- lent slice holds afterwards, for every input. Assumes nothing.
 use Rattle.definitions.specs.Base.{Bool, not, _&&_, List, [], _∷_, _++_, ℕ, _-_, _/_, min, leb, ltb, length, Refusal, WrongDegree, WrongDimension}
 use Rattle.definitions.specs.Base.{IllFormedPair, NotPrimitive, QuotientNotLinear, StepNotCoprime, StepBelowFloor, WrongFloor, ShortSlice, BeyondPeriod}
 use Rattle.definitions.specs.Base.{Selection}
 use Rattle.definitions.specs.Base.{Position, Start, After, PageRequest, Judgement, Accepted, Rejected, Uniformity, Value, Undefined, PageAnswer}
-use Rattle.definitions.specs.Base.{Page, NoPage, PointsAnswer, Written, NotWritten, QuotientTest, Degrees, Untested}
+use Rattle.definitions.specs.Base.{Page, NoPage, PointsAnswer, Written, NotWritten, QuotientTest, Degrees, Untested, GapSum, Sum, NoSum}
 use Rattle.definitions.specs.Number.{join, over}
 use Rattle.definitions.specs.Answers.{Situation, situation, unless}
 use Rattle.definitions.specs.Generator.{leastDegree, lawfulDegree, lawfulFloor, wellFormed, period, primitive, linearQuotients, quotientDegree}
 use Rattle.definitions.specs.Generator.{commonDegree, coprimeStep, step, reachesFloor}
 use Rattle.definitions.specs.Points.{words}
 use Rattle.definitions.specs.Net.{tValue}
+use Rattle.definitions.specs.Gaps.{sumOfGaps}
 use Rattle.definitions.specs.Pages.{page, more}
 use Rattle.definitions.specs.Ranking.{lawfulTop, lawfulDimension, rowWidth, rowKey, ranked, cutOf}
 
@@ -68,12 +69,19 @@ counting m p q s =
 unfoldable pub counted : ℕ → ℕ → ℕ → ℕ → Uniformity
 counted m p q s = unless (counting m p q s) Undefined (Value (tValue m p q s))
 
+-- The sum of resolution gaps: 1, 3; else Δ.
+unfoldable pub resolving : ℕ → ℕ → ℕ → List Situation
+resolving m p q = situation (not (lawfulDegree m)) WrongDegree ∷ situation (not (wellFormed m p q)) IllFormedPair ∷ []
+
+unfoldable pub gapSum : ℕ → ℕ → ℕ → GapSum
+gapSum m p q = unless (resolving m p q) NoSum (Sum (sumOfGaps m p q))
+
 -- The list that a page request means, and the request for a page of a list.
 abbrev pub selectionOf : PageRequest → Selection
-selectionOf r = record { degree = r .degree; top = r .top; floor = r .floor }
+selectionOf r = record { degree = r .degree; top = r .top; floor = r .floor; gaps = r .gaps }
 
 abbrev pub pageRequest : Selection → Position → PageRequest
-pageRequest l at = record { degree = l .degree; top = l .top; floor = l .floor; position = at }
+pageRequest l at = record { degree = l .degree; top = l .top; floor = l .floor; gaps = l .gaps; position = at }
 
 -- A page: 1, 2 and 12, then for a position after a pair 3 to 6 and 11, then 7.
 unfoldable pub positionSituations : ℕ → ℕ → Position → List Situation

@@ -4,15 +4,16 @@ use mathlib.Core.Path.{_≡_, refl, ap₂}
 use lib.Dec.{T, eqb→eq}
 use Rattle.definitions.specs.Answers.{judgementValues, uniformityValues, pageValues, unless}
 use Rattle.definitions.specs.Calls.{judgement, uniformity, pageRequest, pageAnswer, pageSlice, pointsSlice, pairSituations, judging, measuring}
-use Rattle.definitions.specs.Calls.{positionSituations, paging, pageRows, furtherRow, pointing}
-use Rattle.definitions.specs.Number.{first, every, count, numbers, keep, all, over, gcdWithin, gcd}
+use Rattle.definitions.specs.Calls.{positionSituations, paging, pageRows, furtherRow, pointing, resolving}
+use Rattle.definitions.specs.Number.{first, largest, every, count, sum, numbers, keep, all, over, gcdWithin, gcd}
 use Rattle.definitions.specs.Polynomial.{_⊕_, degreeWithin, degree, byDigitsWithin, byDigits, prod, power, clear, bringDown, divide, quot, rem}
 use Rattle.definitions.specs.Generator.{wellFormed, order, primitive, found, expansionWithin, expansion, linearQuotients, highest, quotientDegree}
 use Rattle.definitions.specs.Generator.{step, coprimeStep, accepted, reachesFloor, acceptedAt}
 use Rattle.definitions.specs.Points.{leading, state, word, words, coordinate}
 use Rattle.definitions.specs.Net.{everyShare, everyBox, inBox, isNet, tValue}
+use Rattle.definitions.specs.Gaps.{held, evenCubes, resolution, resolutionGap, sumOfGaps}
 use Rattle.definitions.specs.Pages.{before, above, insert, insertAll, sort, rest, page, more}
-use Rattle.definitions.specs.Ranking.{tValues, row, rowKey, allPairs, listedPairs, ranked, cutOf}
+use Rattle.definitions.specs.Ranking.{tValues, ranks, row, rowKey, allPairs, listedPairs, ranked, cutOf}
 
 -- The floor that document 01 is read with.
 abbrev pub noFloor : ℕ
@@ -41,7 +42,7 @@ measures m p q s t = record { defined = uniformityValues (uniformity m p q s); p
 unfoldable pub lists : ℕ → ℕ → ℕ → List ℕ → List ℕ → Example
 unfolding pageAnswer pageSlice
 lists m top n answer slice =
-    let r : PageRequest = pageRequest (record { degree = m; top = top; floor = noFloor }) Start in
+    let r : PageRequest = pageRequest (record { degree = m; top = top; floor = noFloor; gaps = false }) Start in
     record { defined = pageValues (pageAnswer r (replicate n 0)) ++ pageSlice r (replicate n 0); printed = answer ++ slice }
 
 -- The first word of a pair of degree m.
@@ -98,9 +99,9 @@ agrees-equal (e ∷ l) t =
     let h = both (same (e .defined) (e .printed)) (agrees l) t in
     ap₂ _∷_ (same-equal (e .defined) (e .printed) (h .0)) (agrees-equal l (h .1))
 
--- To unfold this is to unfold all that the first four calls are defined by, so that they compute.
+-- To unfold this is to unfold all that judging, t-values, Δ, pages and points are defined by, so that they compute.
 unfoldable pub calls : ℕ
-unfolding first every count numbers keep all over gcdWithin gcd _⊕_ degreeWithin degree byDigitsWithin byDigits prod power clear bringDown divide quot rem wellFormed order primitive found expansionWithin expansion linearQuotients highest quotientDegree step coprimeStep accepted reachesFloor acceptedAt leading state word words coordinate everyShare everyBox inBox isNet tValue before above insert insertAll sort rest page more tValues row rowKey allPairs listedPairs ranked cutOf unless pairSituations judging judgement measuring uniformity positionSituations paging pageRows furtherRow pageAnswer pageSlice pointing pointsSlice
+unfolding first largest every count sum numbers keep all over gcdWithin gcd _⊕_ degreeWithin degree byDigitsWithin byDigits prod power clear bringDown divide quot rem wellFormed order primitive found expansionWithin expansion linearQuotients highest quotientDegree step coprimeStep accepted reachesFloor acceptedAt leading state word words coordinate everyShare everyBox inBox isNet tValue held evenCubes resolution resolutionGap sumOfGaps before above insert insertAll sort rest page more tValues ranks row rowKey allPairs listedPairs ranked cutOf unless pairSituations judging judgement measuring uniformity resolving positionSituations paging pageRows furtherRow pageAnswer pageSlice pointing pointsSlice
 calls = 0
 
 starred-test : T (agrees table)

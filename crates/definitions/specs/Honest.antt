@@ -1,6 +1,6 @@
 -- Laws that keep the definitions honest: what a reader would check first. By the definitions' own cases. Assumes nothing.
-use Rattle.definitions.specs.Base.{Bool, true, false, List, [], _∷_, _++_, map, ℕ, zero, suc, _+_, eqb, length, drop, Refusal, Position, Start, After}
-use Rattle.definitions.specs.Base.{PageRequest}
+use Rattle.definitions.specs.Base.{Bool, true, false, List, [], _∷_, _++_, map, ℕ, zero, suc, _+_, _/_, eqb, length, drop, Refusal, Position, Start}
+use Rattle.definitions.specs.Base.{After, PageRequest}
 use mathlib.Core.Path.{_≡_, refl, _∙_}
 use mathlib.Core.Bool.{and-eq-true-iff}
 use Prim.Native.Nat.{_≤_, _<_}
@@ -8,12 +8,14 @@ use native.Mathlib.Nat.{zero-add}
 use native.Mathlib.Omega.{arith}
 use lib.Seq.{take-all, drop-at, length-take-le}
 use borrow.Author.Tests.{ltb-true, ltb-false, eqb-true, le-leb}
-use Rattle.definitions.specs.Number.{first, all, over}
+use Rattle.definitions.specs.Number.{first, sum, numbers, all, over}
 use Rattle.definitions.specs.Answers.{refusalNumber, Situation, unless}
 use Rattle.definitions.specs.Generator.{expansion, linear, linearQuotients, step, reachesFloor}
 use Rattle.definitions.specs.Net.{isNet, tValue}
-use Rattle.definitions.specs.Pages.{Cut, rest, page, more}
-use Rattle.definitions.specs.Calls.{judging, counting, pageRequest, paging, pointing}
+use Rattle.definitions.specs.Gaps.{resolution, resolutionGap, sumOfGaps}
+use Rattle.definitions.specs.Pages.{Cut, before, rest, page, more}
+use Rattle.definitions.specs.Ranking.{row, rowKey}
+use Rattle.definitions.specs.Calls.{judging, counting, resolving, pageRequest, paging, pointing}
 use Rattle.definitions.specs.Examples.{calls}
 use Rattle.definitions.specs.Listing.{newline, lineOf, wordsOf, isNumber, decimalFrom, lineNumbers, letters, decimalWithin, decimal}
 use Rattle.definitions.specs.Recount.{bothText, pairText, recountText, recount}
@@ -82,9 +84,12 @@ pub top-before-order : unless (entering 0 (entriesOf 0 (5 ∷ 4 ∷ 3 ∷ 9 ∷ 
 unfolding unless entering entriesOf lawfulDegrees lawfulTops ascending all
 top-before-order = refl
 
--- The request for a page of degree 3.
+-- The request for a page of degree 3, without Δ and with it.
 abbrev pageOf : ℕ → ℕ → Position → PageRequest
-pageOf top floor at = pageRequest (record { degree = 3; top = top; floor = floor }) at
+pageOf top floor at = pageRequest (record { degree = 3; top = top; floor = floor; gaps = false }) at
+
+abbrev gapsPageOf : ℕ → PageRequest
+gapsPageOf top = pageRequest (record { degree = 3; top = top; floor = 0; gaps = true }) Start
 
 -- Where 12 or 11 meets another number, the order of document 02 decides: in judging, for a page, in points and in writing.
 pub floor-orders : map (λ (l : List Situation). unless l refusalNumber 0)
@@ -101,6 +106,41 @@ pub counting-orders : map (λ (l : List Situation). unless l refusalNumber 0)
     ≡ 0 ∷ 1 ∷ 1 ∷ 1 ∷ 2 ∷ 3 ∷ []
 unfolding calls counting
 counting-orders = refl
+
+-- Δ of (x^3 + x + 1, 1), (x^3 + x + 1, x^2) and (x^3 + x, x^2), which is not primitive, and l_1, l_2, l_3 of (x^3, x^2): as a script apart from the
+-- library counts points in cubes.
+pub gaps-counted : sumOfGaps 3 11 1 ∷ sumOfGaps 3 11 4 ∷ sumOfGaps 3 10 4 ∷ map (resolution 3 8 4) (numbers 1 3) ≡ 2 ∷ 0 ∷ 1 ∷ 3 ∷ 1 ∷ 0 ∷ []
+unfolding calls
+gaps-counted = refl
+
+-- At most all gaps there can be.
+pub gaps-at-most : (m p q : ℕ) → sumOfGaps m p q ≤ sum m (λ (s : ℕ). m / s)
+unfolding sumOfGaps sum resolutionGap
+gaps-at-most m p q = go m
+  where
+    go : (n : ℕ) → sum n (resolutionGap m p q) ≤ sum n (λ (s : ℕ). m / s)
+    go zero = omega arith
+    go (suc n) = omega (arith, go n)
+
+-- Among equal t-values the smaller Δ stands first, whatever p is; among equal Δ the smaller p.
+pub delta-before-p : map (before (rowKey (13 ∷ 7 ∷ 4 ∷ 1 ∷ 1 ∷ 5 ∷ []))) (rowKey (11 ∷ 4 ∷ 2 ∷ 1 ∷ 1 ∷ 6 ∷ []) ∷ rowKey (11 ∷ 4 ∷ 2 ∷ 1 ∷ 1 ∷ 5 ∷ []) ∷ [])
+    ≡ true ∷ false ∷ []
+unfolding before rowKey
+delta-before-p = refl
+
+-- A row with Δ has it as its last number.
+pub gaps-row : row (record { degree = 3; top = 4; floor = 0; gaps = true }) 11 4 ≡ 11 ∷ 4 ∷ 2 ∷ 1 ∷ 1 ∷ 0 ∷ []
+unfolding calls
+gaps-row = refl
+
+-- Δ alone is refused with 1, then 3. A page of T = 4 with Δ needs 6 numbers, without it 5; a page asks with T itself, the writer with T + 16.
+pub gaps-orders : map (λ (l : List Situation). unless l refusalNumber 0)
+    (resolving 17 16 1 ∷ resolving 3 16 1 ∷ resolving 3 8 4
+    ∷ paging (gapsPageOf 4) (numbers 1 5) ∷ paging (gapsPageOf 4) (numbers 1 6) ∷ paging (pageOf 4 0 Start) (numbers 1 5) ∷ paging (gapsPageOf 20) []
+    ∷ entering 0 (entriesOf 0 (3 ∷ 20 ∷ [])) ∷ entering 0 (entriesOf 0 (3 ∷ 18 ∷ [])) ∷ entering 0 (entriesOf 0 (3 ∷ 25 ∷ [])) ∷ [])
+    ≡ 1 ∷ 3 ∷ 0 ∷ 7 ∷ 0 ∷ 0 ∷ 2 ∷ 0 ∷ 2 ∷ 2 ∷ []
+unfolding calls resolving entering entriesOf lawfulDegrees lawfulTops ascending
+gaps-orders = refl
 
 -- What document 02 prints for `3 11 2 2`.
 pub recount-example : recount (letters "3 11 2 2") ≡ letters "quick 1 count 1" ++ newline ∷ []

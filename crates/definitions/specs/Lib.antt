@@ -5,6 +5,7 @@ pub mod Polynomial
 pub mod Generator
 pub mod Points
 pub mod Net
+pub mod Gaps
 pub mod Pages
 pub mod Ranking
 pub mod Answers

@@ -147,7 +147,7 @@ listText l size =
 unfoldable pub answerText : Line → List ℕ
 answerText Unreadable = refusedText unreadable
 answerText (Asked m top size floor) =
-    let l : Selection = record { degree = m; top = top; floor = floor } in
+    let l : Selection = record { degree = m; top = top; floor = floor; gaps = false } in
     elim (ltb largestSize size) [
       | true ↦ refusedText unreadable
       | false ↦ unless (paging (pageRequest l Start) (replicate (size * rowWidth l) 0)) (λ (n : Refusal). refusedText (refusalNumber n)) (listText l size)

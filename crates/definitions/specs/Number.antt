@@ -1,4 +1,4 @@
--- Numbers and lists, as far as the definitions need them: the first number that passes a test, counting, greatest common divisors.
+-- Numbers and lists, as far as the definitions need them: the first and the largest number that pass a test, counting, sums, greatest common divisors.
 -- Assumes nothing.
 use Rattle.definitions.specs.Base.{Bool, true, false, _&&_, List, [], _∷_, _++_, ℕ, zero, suc, _+_, _%_, length, take, drop}
 
@@ -6,6 +6,11 @@ use Rattle.definitions.specs.Base.{Bool, true, false, _&&_, List, [], _�
 unfoldable pub first : ℕ → ℕ → (ℕ → Bool) → ℕ
 first zero a test = a
 first (suc n) a test = elim (test a) [ true ↦ a | false ↦ first n (suc a) test ]
+
+-- The largest number from 1 to n that passes the test; 0 where none does.
+unfoldable pub largest : ℕ → (ℕ → Bool) → ℕ
+largest zero test = 0
+largest (suc n) test = elim (test (suc n)) [ true ↦ suc n | false ↦ largest n test ]
 
 -- The test holds of every number below n.
 unfoldable pub every : ℕ → (ℕ → Bool) → Bool
@@ -20,6 +25,11 @@ bit false = 0
 unfoldable pub count : ℕ → (ℕ → Bool) → ℕ
 count zero test = 0
 count (suc n) test = bit (test n) + count n test
+
+-- f 1 + .. + f n.
+unfoldable pub sum : ℕ → (ℕ → ℕ) → ℕ
+sum zero f = 0
+sum (suc n) f = f (suc n) + sum n f
 
 -- The n numbers from a on.
 unfoldable pub numbers : ℕ → ℕ → List ℕ

@@ -1,13 +1,13 @@
 -- Writing a catalogue: the bytes of a file that holds given lists, which `Catalogue.antt` reads; the file that entries ask for; what the call answers
 -- and leaves in the lent buffer; and the program that writes a file. Assumes nothing.
-use Rattle.definitions.specs.Base.{Bool, true, not, _&&_, List, [], _∷_, _++_, map, ℕ, zero, suc, _+_, _-_, _*_, _/_, _%_, _^_, ltb, length, drop}
+use Rattle.definitions.specs.Base.{Bool, true, false, not, _&&_, List, [], _∷_, _++_, map, ℕ, zero, suc, _+_, _-_, _*_, _/_, _%_, _^_, ltb, length, drop}
 use Rattle.definitions.specs.Base.{getD, Selection, Refusal, WrongDegree, WrongDimension, WrongFloor, NotAscending, FileTooLong, FileAnswer, File}
 use Rattle.definitions.specs.Base.{NoFile}
 use Rattle.definitions.specs.Number.{all, join, over}
 use Rattle.definitions.specs.Answers.{refusalNumber, Situation, situation, unless}
 use Rattle.definitions.specs.Generator.{lawfulDegree, lawfulFloor}
 use Rattle.definitions.specs.Ranking.{lawfulTop, ranksFrom, ranked}
-use Rattle.definitions.specs.Catalogue.{numberSize, countSize, offsetSize, entrySize, firstEntry, mostEntries}
+use Rattle.definitions.specs.Catalogue.{numberSize, countSize, offsetSize, entrySize, firstEntry, mostEntries, markedTop, gapsOf, topOf}
 use Rattle.definitions.specs.Listing.{numbersWithin, refusedText, unreadable}
 
 -- ---- the bytes of a file
@@ -17,13 +17,14 @@ unfoldable pub bytesOf : ℕ → ℕ → List ℕ
 bytesOf zero n = []
 bytesOf (suc w) n = bytesOf w (n / 256) ++ (n % 256 ∷ [])
 
--- The ranked rows, or any others, of a degree.
+-- The ranked rows, or any others, of a degree; `gaps` says whether they have Δ.
 pub record Listed : Type 0 where
   pub degree : ℕ
   pub top : ℕ
+  pub gaps : Bool
   pub rows : List (List ℕ)
 
--- In a row's numbers: p, q and σ, before the t-values.
+-- In a row's numbers: p, q and σ, before those that rank it.
 abbrev pub pOf : List ℕ → ℕ
 pOf r = getD r 0 0
 
@@ -33,7 +34,7 @@ qOf r = getD r 1 0
 abbrev pub stepOf : List ℕ → ℕ
 stepOf r = getD r 2 0
 
--- A row: p without its leading term, q and σ, then t(3) .. t(T) in one byte each.
+-- A row: p without its leading term, q and σ, then t(3) .. t(T), and Δ where the row has it, in one byte each.
 unfoldable pub rowBytes : ℕ → List ℕ → List ℕ
 rowBytes m r =
     let w : ℕ = numberSize m in
@@ -42,9 +43,9 @@ rowBytes m r =
 unfoldable pub bodyBytes : Listed → List ℕ
 bodyBytes l = join (map (rowBytes (l .degree)) (l .rows))
 
--- An entry: the degree, T, the row count, the place of the body.
+-- An entry: the degree, T with the kind, the row count, the place of the body.
 unfoldable pub entryBytes : Listed → ℕ → List ℕ
-entryBytes l offset = l .degree ∷ l .top ∷ bytesOf (countSize (l .degree)) (length (l .rows)) ++ bytesOf offsetSize offset
+entryBytes l offset = l .degree ∷ markedTop (l .top) (l .gaps) ∷ bytesOf (countSize (l .degree)) (length (l .rows)) ++ bytesOf offsetSize offset
 
 -- The entries, the first body lying at `at`.
 unfoldable pub contentsBytes : List Listed → ℕ → List ℕ
@@ -62,15 +63,16 @@ catalogueBytes ls = length ls ∷ contentsBytes ls (behindLists ls firstEntry) +
 
 -- ---- the file that is asked for
 
--- The entries of a lent slice, each at the floor of the file: degree, T, degree, T, .. For a last T that is missing stands 0, which is no lawful T.
+-- The entries of a lent slice, each at the floor of the file: degree, T, degree, T, .., with T + 16 for T where the rows are to have Δ. For a last T
+-- that is missing stands 0, which is no lawful T.
 unfoldable pub entriesOf : ℕ → List ℕ → List Selection
 entriesOf floor [] = []
-entriesOf floor (m ∷ []) = record { degree = m; top = 0; floor = floor } ∷ []
-entriesOf floor (m ∷ top ∷ e) = record { degree = m; top = top; floor = floor } ∷ entriesOf floor e
+entriesOf floor (m ∷ []) = record { degree = m; top = 0; floor = floor; gaps = false } ∷ []
+entriesOf floor (m ∷ n ∷ e) = record { degree = m; top = topOf n; floor = floor; gaps = gapsOf n } ∷ entriesOf floor e
 
 -- What the file holds for an entry: the ranked list.
 unfoldable pub rankedList : Selection → Listed
-rankedList l = record { degree = l .degree; top = l .top; rows = ranked l }
+rankedList l = record { degree = l .degree; top = l .top; gaps = l .gaps; rows = ranked l }
 
 unfoldable pub rankedFile : List Selection → List ℕ
 rankedFile ls = catalogueBytes (map rankedList ls)

@@ -1,10 +1,12 @@
 // The public types: what a customer asks with, and what each call answers. No functions.
 
-// Which ranked list is meant: its degree, its top dimension T and its floor, the smallest step that its pairs may have.
+// Which ranked list is meant: its degree, its top dimension T, its floor, the smallest step that its pairs may have, and whether its rows have Δ,
+// the sum of resolution gaps.
 pub struct Selection {
     pub degree: u32,
     pub top: u32,
     pub floor: u32,
+    pub gaps: bool,
 }
 
 // Where a page begins: at the start of the ranked list, or after the pair (p, q).
@@ -13,11 +15,12 @@ pub enum Position {
     After(u32, u32),
 }
 
-// A request for a page: the degree, the top dimension T, the floor and the position.
+// A request for a page: the degree, the top dimension T, the floor, whether Δ is wanted, and the position.
 pub struct PageRequest {
     pub degree: u32,
     pub top: u32,
     pub floor: u32,
+    pub gaps: bool,
     pub position: Position,
 }
 
@@ -58,6 +61,12 @@ pub enum Uniformity {
     Undefined(Refusal),
 }
 
+// The sum of resolution gaps Δ.
+pub enum GapSum {
+    Sum(u32),
+    NoSum(Refusal),
+}
+
 // A page: how many rows were written, and whether a further row exists.
 pub enum PageAnswer {
     Page(usize, bool),
@@ -76,13 +85,13 @@ pub enum Opening {
     Closed(Refusal),
 }
 
-// A lookup's numbers: the top dimension and the row count of a degree's body.
+// What a lookup tells of a degree's body: the top dimension, whether its rows have Δ, and the row count.
 pub enum Lookup {
-    Body(u32, u32),
+    Body(u32, bool, u32),
     NoBody(Refusal),
 }
 
-// A row of a catalogue: the pair, its step and t(3) .. t(8), 0 above the body's top dimension.
+// A row of a catalogue: the pair, its step, t(3) .. t(8), 0 above the body's top dimension, and Δ, 0 where the body's rows have none.
 pub struct Row {
     pub p: u32,
     pub q: u32,
@@ -93,6 +102,7 @@ pub struct Row {
     pub t6: u32,
     pub t7: u32,
     pub t8: u32,
+    pub delta: u32,
 }
 
 // What a reader hands out: the next row, or that it is at the end.
@@ -101,12 +111,14 @@ pub enum NextRow {
     End,
 }
 
-// A catalogue's reader: the number of the refusal, 0 where there is none; the lent body, its degree and top dimension, and the place of the next row.
+// A catalogue's reader: the number of the refusal, 0 where there is none; the lent body, its degree and top dimension, whether its rows have Δ, and the
+// place of the next row.
 pub struct Reader<'a> {
     pub refusal: u32,
     pub body: &'a [u8],
     pub degree: u32,
     pub top: u32,
+    pub gaps: bool,
     pub place: usize,
 }
 

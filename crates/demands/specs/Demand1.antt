@@ -4,20 +4,20 @@
 -- documents' table has it: as the definition's tests, and for a pair (3 to 6, 11) in the table's words. Assumes nothing.
 use mathlib.Core.Path.{_≡_, refl, ap}
 use mathlib.Core.Logic.{_↔_, inl, inr}
-use mathlib.Core.Bool.{Bool, true, not}
+use mathlib.Core.Bool.{Bool, true, false, not}
 use mathlib.Core.List.{List, [], _∷_, _++_, map, List·Memᴰ}
 use Prim.Native.Nat.{ℕ, _-_, _<_}
 use native.Mathlib.Omega.{arith}
 use lib.Dec.{eqb, ltb}
 use lib.ListN.{length, getD}
 use Rattle.definitions.specs.Answers.{Situation, situation, refusalNumber, unless, judgementValues, uniformityValues, pageValues, pointsValues, openingValues}
-use Rattle.definitions.specs.Answers.{quotientTestValues, lookupValues, fileValues}
+use Rattle.definitions.specs.Answers.{quotientTestValues, gapSumValues, lookupValues, fileValues}
 use Rattle.definitions.specs.Generator.{lawfulDegree, lawfulFloor, wellFormed, period, primitive, linearQuotients, coprimeStep, reachesFloor}
 use Rattle.definitions.specs.Ranking.{lawfulTop, lawfulDimension, rowWidth}
-use Rattle.definitions.specs.Calls.{testing, quotientTest, countedDegree, counting, counted}
+use Rattle.definitions.specs.Calls.{testing, quotientTest, countedDegree, counting, counted, resolving, gapSum}
 use Rattle.definitions.specs.Calls.{pairSituations, judging, judgement, measuring, uniformity, selectionOf, pageRequest, positionSituations, paging, pageAnswer}
 use Rattle.definitions.specs.Calls.{pageSlice, pointing, pointsAnswer, pointsSlice}
-use Rattle.definitions.specs.Catalogue.{catalogueForm, opening, entryOf, looking, lookupNumbers, lookupPart, readerTop}
+use Rattle.definitions.specs.Catalogue.{catalogueForm, opening, entryOf, looking, lookupNumbers, lookupPart, readerTop, readerGaps}
 use Rattle.definitions.specs.Writing.{entriesOf, rankedFile, lawfulDegrees, lawfulTops, ascending, entering, writing, fileAnswer, fileBuffer}
 use Rattle.definitions.specs.declared.Refusal.{Refusal}
 use Rattle.definitions.specs.declared.Refusal.the-variants.{WrongDegree, WrongDimension, WrongFloor, ShortSlice, BeyondPeriod}
@@ -29,6 +29,7 @@ use Rattle.definitions.specs.declared.PageRequest.{PageRequest}
 use Rattle.definitions.specs.declared.Judgement.the-variants.{Rejected}
 use Rattle.definitions.specs.declared.QuotientTest.the-variants.{Untested}
 use Rattle.definitions.specs.declared.Uniformity.the-variants.{Undefined}
+use Rattle.definitions.specs.declared.GapSum.the-variants.{NoSum}
 use Rattle.definitions.specs.declared.PageAnswer.the-variants.{NoPage}
 use Rattle.definitions.specs.declared.PointsAnswer.the-variants.{NotWritten}
 use Rattle.definitions.specs.declared.Opening.the-variants.{Closed}
@@ -178,6 +179,25 @@ module _ (m p q s : ℕ) where
   unfolding counting applies
   counting-situations = refl
 
+-- ---- the sum of resolution gaps
+
+module _ (m p q : ℕ) where
+  pub resolving-uses : numbersOf (resolving m p q) ≡ 1 ∷ 3 ∷ []
+  unfolding resolving
+  resolving-uses = refl
+
+  pub resolving-exact : Exact (resolving m p q) (numberOf (gapSumValues (gapSum m p q)))
+  unfolding resolving gapSum
+  resolving-exact = exact gapSumValues (resolving m p q) NoSum _ refl (λ r. refl) refl
+
+  pub resolving-lowest : LowestGiven (resolving m p q) (numberOf (gapSumValues (gapSum m p q)))
+  unfolding resolving
+  resolving-lowest = lowest resolving-exact refl
+
+  pub resolving-situations : map (applies (resolving m p q)) (1 ∷ 3 ∷ []) ≡ not (lawfulDegree m) ∷ not (wellFormed m p q) ∷ []
+  unfolding resolving applies
+  resolving-situations = refl
+
 -- ---- a page, at the start and after a pair
 
 module _ (l : Selection) (s : List ℕ) where
@@ -287,11 +307,14 @@ module _ (s : List ℕ) (m : ℕ) where
   looking-situations = refl
 
   -- Refused, the part is empty, and a reader has no rows and T = 0.
-  pub looking-empty : (n : Refusal) → lookupNumbers s m ≡ NoBody n → (lookupPart s m ≡ []) × (readerTop s m ≡ 0)
-  unfolding lookupNumbers lookupPart readerTop
+  pub looking-empty : (n : Refusal) → lookupNumbers s m ≡ NoBody n → (lookupPart s m ≡ []) × (readerTop s m ≡ 0) × (readerGaps s m ≡ false)
+  unfolding lookupNumbers lookupPart readerTop readerGaps
   looking-empty n e =
-      let t = told-refused (looking s m) e (λ d. let z : _≡_ {A = ℕ} 0 1 = cc in omega arith) in
-      (unless-refused (λ (k : Refusal). []) _ (t .1), unless-refused (λ (k : Refusal). 0) _ (t .1))
+      let t = told-refused (looking s m) e (λ d. let z : _≡_ {A = ℕ} 0 1 = cc in omega arith) in (
+        unless-refused (λ (k : Refusal). []) _ (t .1),
+        unless-refused (λ (k : Refusal). 0) _ (t .1),
+        unless-refused (λ (k : Refusal). false) _ (t .1),
+      )
 
 -- ---- writing a catalogue: the floor, its entries e, the buffer s
 

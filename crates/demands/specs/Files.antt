@@ -12,7 +12,7 @@ use lib.Seq.{take-at, drop-at}
 use Rattle.definitions.specs.Number.{all}
 use Rattle.definitions.specs.Generator.{largestFloor, lawfulDegree}
 use Rattle.definitions.specs.Ranking.{lawfulTop, ranked}
-use Rattle.definitions.specs.Catalogue.{catalogueForm, opening, lookupNumbers}
+use Rattle.definitions.specs.Catalogue.{catalogueForm, topOf, gapsOf, opening, lookupNumbers}
 use Rattle.definitions.specs.Writing.{entriesOf, rankedList, rankedFile, lawfulDegrees, lawfulTops, ascending, entering, writing, fileAnswer, fileBuffer}
 use Rattle.definitions.specs.declared.Selection.{Selection}
 use Rattle.definitions.specs.declared.FileAnswer.the-variants.{File}
@@ -67,12 +67,12 @@ falls-not (x ∷ y ∷ l) zero h f = rw (le-ltb (x .degree) (y .degree) f)
 falls-not (x ∷ y ∷ l) (suc k) h f = by-test (ltb (x .degree) (y .degree)) (λ t. rw t (falls-not (y ∷ l) k (omega arith) f)) (λ n. rw n)
 
 module _ (floor : ℕ) (e s : List ℕ) where
-  -- The degree of the entry at k, and its T.
+  -- The degree of the entry at k, and the number behind it: T, or T + 16 where its rows are to have Δ.
   abbrev degreeAt : ℕ → ℕ
   degreeAt k = getD e (2 * k) 0
 
-  abbrev topAt : ℕ → ℕ
-  topAt k = getD e (2 * k + 1) 0
+  abbrev markAt : ℕ → ℕ
+  markAt k = getD e (2 * k + 1) 0
 
   within : (k : ℕ) → (k < length (entriesOf floor e)) ↔ (2 * k < length e)
   within k = (λ h. omega (arith, entries-length floor e), λ h. omega (arith, entries-length floor e))
@@ -88,7 +88,7 @@ module _ (floor : ℕ) (e s : List ℕ) where
   )
 
   -- 2 exactly where a T is missing or wrong;
-  pub wrong-top : (applies (writing floor e s) 2 ≡ true) ↔ ((k : ℕ) × (2 * k < length e) × ((length e ≡ 2 * k + 1) ⊎ (lawfulTop (topAt k) ≡ false)))
+  pub wrong-top : (applies (writing floor e s) 2 ≡ true) ↔ ((k : ℕ) × (2 * k < length e) × ((length e ≡ 2 * k + 1) ⊎ (lawfulTop (topOf (markAt k)) ≡ false)))
   unfolding writing entering applies lawfulTops
   wrong-top = (
     λ a. let r = one-fails (λ (l : Selection). lawfulTop (l .top)) noEntry (entriesOf floor e) a in
@@ -98,7 +98,7 @@ module _ (floor : ℕ) (e s : List ℕ) where
         fails-all (λ (l : Selection). lawfulTop (l .top)) noEntry (entriesOf floor e) (r .0) h (rw (entry-is floor e (r .0) h) wrong),
   )
     where
-      fails : (k : ℕ) → (length e ≡ 2 * k + 1) ⊎ (lawfulTop (topAt k) ≡ false) → lawfulTop (topAt k) ≡ false
+      fails : (k : ℕ) → (length e ≡ 2 * k + 1) ⊎ (lawfulTop (topOf (markAt k)) ≡ false) → lawfulTop (topOf (markAt k)) ≡ false
       fails k (inl missing) = rw (List·getD-eq-default e 0 {n = 2 * k + 1} (omega arith))
       fails k (inr wrong) = wrong
 
@@ -117,7 +117,8 @@ module _ (floor : ℕ) (e s : List ℕ) where
         falls-not (entriesOf floor e) (r .0) h (rw (before (r .0) h, entry-is floor e (suc (r .0)) h) (r .2)),
   )
     where
-      before : (k : ℕ) → suc k < length (entriesOf floor e) → entryIn floor e k ≡ record { degree = degreeAt k; top = topAt k; floor = floor }
+      before : (k : ℕ) → suc k < length (entriesOf floor e)
+          → entryIn floor e k ≡ record { degree = degreeAt k; top = topOf (markAt k); floor = floor; gaps = gapsOf (markAt k) }
       before k h = entry-is floor e k (omega (arith, h))
 
   -- and 14 exactly where the file is longer than the buffer.
@@ -127,15 +128,15 @@ module _ (floor : ℕ) (e s : List ℕ) where
 
 -- ---- the round trip
 
--- READ BACK: a file is of the form, and by opening, looking up and reading it has, in order, the degrees, T and ranked rows of the entries, and no
--- other degree.
+-- READ BACK: a file is of the form, and by opening, looking up and reading it has, in order, the degrees, T, kinds and ranked rows of the entries, with
+-- Δ or without as each entry asks, and no other degree.
 pub record ReadsBack (ls : List Selection) (file : List ℕ) : Type 0 where
   pub form : catalogueForm file ≡ true
   pub opens : opening file ≡ Entries (length ls)
   pub holds : heldIn file ≡ map rankedList ls
-  pub numbers : (l : Selection) → List·Memᴰ l ls → lookupNumbers file (l .degree) ≡ Body (l .top) (length (ranked l))
+  pub numbers : (l : Selection) → List·Memᴰ l ls → lookupNumbers file (l .degree) ≡ Body (l .top) (l .gaps) (length (ranked l))
   pub rows : (l : Selection) → List·Memᴰ l ls → (n : ℕ)
-      → readBy file (l .degree) (length (ranked l) + n) ≡ map (λ (r : List ℕ). Found (rowOf r)) (ranked l) ++ replicate n End
+      → readBy file (l .degree) (length (ranked l) + n) ≡ map (λ (r : List ℕ). Found (rowOf (l .top) (l .gaps) r)) (ranked l) ++ replicate n End
   pub no-other : (m : ℕ) → lawfulDegree m ≡ true → ((l : Selection) → List·Memᴰ l ls → l .degree ≡ m → ⊥) → lookupNumbers file m ≡ NoBody DegreeMissing
 
 reads-back : (ls : List Selection) → LawfulEntries 0 ls → ReadsBack ls (rankedFile ls)

@@ -2,7 +2,7 @@
 -- applies is given, and the list of every accepted pair; so the two floors give the same. Whoever walks a list at any floor receives what a walk at
 -- floor 0 gives, without the rows that have a smaller step. From the fact that every step is 1 at least. Assumes nothing.
 use mathlib.Core.Path.{_≡_, refl, sym, ap, ap₂, _∙_}
-use mathlib.Core.Bool.{true, not}
+use mathlib.Core.Bool.{Bool, true, false, not}
 use mathlib.Core.List.{List, [], _∷_, _++_, map}
 use Prim.Native.Nat.{ℕ, _-_, _/_, _≤_}
 use native.Mathlib.Omega.{arith}
@@ -14,9 +14,10 @@ use Rattle.definitions.specs.Answers.{Situation, situation, unless, judgementVa
 use Rattle.definitions.specs.Generator.{Pair, largestFloor, lawfulDegree, lawfulFloor, quotientDegree, step, period, accepted}
 use Rattle.definitions.specs.Points.{words}
 use Rattle.definitions.specs.Pages.{sort, page, more}
-use Rattle.definitions.specs.Ranking.{lawfulTop, rowWidth, row, rowKey, allPairs, ranked, cutOf}
+use Rattle.definitions.specs.Ranking.{lawfulTop, rowWidth, ranks, row, rowKey, allPairs, ranked, cutOf}
 use Rattle.definitions.specs.Calls.{pairSituations, judging, judgement, pageRequest, positionSituations, paging, pageRows, furtherRow, pageAnswer}
 use Rattle.definitions.specs.Calls.{pageSlice, pointing, wordCount, pointsAnswer, pointsSlice}
+use Rattle.definitions.specs.Catalogue.{topOf, gapsOf}
 use Rattle.definitions.specs.Writing.{Listed, catalogueBytes, entriesOf, rankedList, rankedFile, lawfulDegrees, lawfulTops, ascending, entering, writing}
 use Rattle.definitions.specs.Writing.{fileAnswer, fileBuffer}
 use Rattle.definitions.specs.declared.Refusal.{Refusal}
@@ -69,7 +70,7 @@ baseRanked l =
 
 -- A file of such lists; writing: 1, 2, 13, 14.
 abbrev pub baseList : Selection → Listed
-baseList l = record { degree = l .degree; top = l .top; rows = baseRanked l }
+baseList l = record { degree = l .degree; top = l .top; gaps = l .gaps; rows = baseRanked l }
 
 abbrev pub baseFile : List ℕ → List ℕ
 baseFile e = catalogueBytes (map baseList (entriesOf 0 e))
@@ -128,7 +129,7 @@ base-ranked = small-floor-list
 -- and pages, which are those of that list: a row has no floor in it, and so no position has.
 module _ (l : Selection) (floor : ℕ) (h : floor ≤ 1) (at : Position) (s : List ℕ) where
   base-cut : cutOf (atFloor floor l) at ≡ cutOf l at
-  unfolding cutOf row
+  unfolding cutOf row ranks
   base-cut = go at
     where
       go : (at : Position) → cutOf (atFloor floor l) at ≡ cutOf l at
@@ -179,15 +180,17 @@ module _ (floor : ℕ) where
   ascending-at (m ∷ top ∷ n ∷ k ∷ e) = rw (ascending-at (n ∷ k ∷ e))
 
   module _ (h : floor ≤ 1) where
-    base-list : (m top : ℕ) → rankedList (record { degree = m; top = top; floor = floor }) ≡ baseList (record { degree = m; top = top; floor = 0 })
+    base-list : (m top : ℕ) (gaps : Bool)
+        → rankedList (record { degree = m; top = top; floor = floor; gaps = gaps }) ≡ baseList (record { degree = m; top = top; floor = 0; gaps = gaps })
     unfolding rankedList
-    base-list m top i = record { degree = m; top = top; rows = base-ranked (record { degree = m; top = top; floor = 0 }) floor h i }
+    base-list m top gaps i =
+        record { degree = m; top = top; gaps = gaps; rows = base-ranked (record { degree = m; top = top; floor = 0; gaps = gaps }) floor h i }
 
     base-lists : (e : List ℕ) → map rankedList (entriesOf floor e) ≡ map baseList (entriesOf 0 e)
     unfolding entriesOf
     base-lists [] = refl
-    base-lists (m ∷ []) = ap (λ (l : Listed). l ∷ []) (base-list m 0)
-    base-lists (m ∷ top ∷ e) = ap₂ _∷_ (base-list m top) (base-lists e)
+    base-lists (m ∷ []) = ap (λ (l : Listed). l ∷ []) (base-list m 0 false)
+    base-lists (m ∷ n ∷ e) = ap₂ _∷_ (base-list m (topOf n) (gapsOf n)) (base-lists e)
 
     pub base-ranked-file : (e : List ℕ) → rankedFile (entriesOf floor e) ≡ baseFile e
     unfolding rankedFile

@@ -265,8 +265,8 @@ c-lookup-empty κs file m r e h n =
     let given = located-values (now file) m in
     rw (h, located-part (now file) m .whole, given .rows, no-rows (lookupNumbers (now file) m) (rw (h, given .refusal) at n), zero-mul)
   where
-    no-rows : (k : Lookup) → 0 < value (lookupValues k) 0 → value (lookupValues k) 2 ≡ 0
-    no-rows (Body top rows) some = absurd (omega arith)
+    no-rows : (k : Lookup) → 0 < value (lookupValues k) 0 → value (lookupValues k) 3 ≡ 0
+    no-rows (Body top gaps rows) some = absurd (omega arith)
     no-rows (NoBody refusal) some = refl
 
 module _ (κs : _) (floor : ℕ) (entries lent : _) (r : _) (e : _) (h : c-write.Post κs (floor, (entries, (lent, tt))) r e) where

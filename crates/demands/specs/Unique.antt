@@ -11,6 +11,7 @@ use Rattle.generator.proofs.judge.Reads as judge
 use Rattle.quotient_test.proofs.test_quotients.Reads as test-quotients
 use Rattle.net.proofs.t_value.Reads as t-value
 use Rattle.counter.proofs.count_t_value.Reads as count-t-value
+use Rattle.gaps.proofs.sum_of_gaps.Reads as sum-of-gaps
 use Rattle.ranking.proofs.page.Reads as page
 use Rattle.points.proofs.points.Reads as points
 use Rattle.catalogue.proofs.«open».Reads as opened
@@ -38,6 +39,7 @@ use Rattle.interface.proofs.fenyurka_judge.Reads as c-judge
 use Rattle.interface.proofs.fenyurka_quotients.Reads as c-quotients
 use Rattle.interface.proofs.fenyurka_t_value.Reads as c-t-value
 use Rattle.interface.proofs.fenyurka_count_t_value.Reads as c-count-t-value
+use Rattle.interface.proofs.fenyurka_sum_of_gaps.Reads as c-sum-of-gaps
 use Rattle.interface.proofs.fenyurka_first_page.Reads as c-first-page
 use Rattle.interface.proofs.fenyurka_page_after.Reads as c-page-after
 use Rattle.interface.proofs.fenyurka_points.Reads as c-points
@@ -78,6 +80,9 @@ t-value-unique κs a r r′ e e′ = same
 
 pub count-t-value-unique : Determined count-t-value.Post (λ κs r e. r)
 count-t-value-unique κs a r r′ e e′ = same
+
+pub sum-of-gaps-unique : Determined sum-of-gaps.Post (λ κs r e. r)
+sum-of-gaps-unique κs a r r′ e e′ = same
 
 pub open-unique : Determined opened.Post (λ κs r e. r)
 open-unique κs a r r′ e e′ = same
@@ -158,22 +163,24 @@ module _ (w : World) where
       fact-use (w .𝓤) φ (conjL (w .𝓤) (fact (w .𝓤) φ) (fact (w .𝓤) ψ))
       (λ x. fact-use (w .𝓤) ψ (conjR (w .𝓤) (fact (w .𝓤) φ) (fact (w .𝓤) ψ)) (λ y. factI (w .𝓤) χ _ (f x y)))
 
-  all-five : {A B C D E : Type 0} {a a′ x : A} {b b′ y : B} {c c′ z : C} {d d′ u : D} {e e′ v : E} → (a ≡ x) × (b ≡ y) × (c ≡ z) × (d ≡ u) × (e ≡ v)
-      → (a′ ≡ x) × (b′ ≡ y) × (c′ ≡ z) × (d′ ≡ u) × (e′ ≡ v) → (a and b and c and d and e) ≡ (a′ and b′ and c′ and d′ and e′)
-  all-five x y =
+  all-six : {A B C D E F : Type 0} {a a′ x : A} {b b′ y : B} {c c′ z : C} {d d′ u : D} {e e′ v : E} {f f′ t : F}
+      → (a ≡ x) × (b ≡ y) × (c ≡ z) × (d ≡ u) × (e ≡ v) × (f ≡ t) → (a′ ≡ x) × (b′ ≡ y) × (c′ ≡ z) × (d′ ≡ u) × (e′ ≡ v) × (f′ ≡ t)
+      → (a and b and c and d and e and f) ≡ (a′ and b′ and c′ and d′ and e′ and f′)
+  all-six x y =
       ap₂ _and_ (same (x .0) (y .0))
-      (ap₂ _and_ (same (x .1) (y .1)) (ap₂ _and_ (same (x .2) (y .2)) (ap₂ _and_ (same (x .3) (y .3)) (same (x .4) (y .4)))))
+      (ap₂ _and_ (same (x .1) (y .1))
+      (ap₂ _and_ (same (x .2) (y .2)) (ap₂ _and_ (same (x .3) (y .3)) (ap₂ _and_ (same (x .4) (y .4)) (same (x .5) (y .5))))))
 
   pub reader-unique : DeterminedIn (λ κs a r e. reader.clauses (w .𝓤) (w .H) (w .𝓖 .A) (w .𝓜 .mem) (w .𝓡 .run) κs a .ensures tt r e)
-      (λ κs r e. r .refusal and now (r .body) and r .degree and r .top and r .place)
-  reader-unique κs a r r′ e e′ = facts-both all-five
+      (λ κs r e. r .refusal and now (r .body) and r .degree and r .top and r .gaps and r .place)
+  reader-unique κs a r r′ e e′ = facts-both all-six
 
   pub next-unique : DeterminedIn (λ κs a r e. next.clauses (w .𝓤) (w .H) (w .𝓖 .A) (w .𝓜 .mem) (w .𝓡 .run) κs a .ensures tt r e) (λ κs r e. r)
   next-unique κs a r r′ e e′ = facts-both same
 
   pub advance-unique : DeterminedIn (λ κs a r e. advance.clauses (w .𝓤) (w .H) (w .𝓖 .A) (w .𝓜 .mem) (w .𝓡 .run) κs a .ensures tt r e)
-      (λ κs r e. r .refusal and r .body and r .degree and r .top and r .place)
-  advance-unique κs a r r′ e e′ = facts-both all-five
+      (λ κs r e. r .refusal and r .body and r .degree and r .top and r .gaps and r .place)
+  advance-unique κs a r r′ e e′ = facts-both all-six
 
 -- ---- from C: the struct returned, and each slice
 
@@ -188,6 +195,9 @@ c-t-value-unique κs a r r′ e e′ = same
 
 pub c-count-t-value-unique : Determined c-count-t-value.Post (λ κs r e. r)
 c-count-t-value-unique κs a r r′ e e′ = same
+
+pub c-sum-of-gaps-unique : Determined c-sum-of-gaps.Post (λ κs r e. r)
+c-sum-of-gaps-unique κs a r r′ e e′ = same
 
 pub c-first-page-unique : Determined c-first-page.Post (λ κs r e. r and now (second e))
 c-first-page-unique κs a r r′ e e′ = both

@@ -6,7 +6,7 @@ use Prim.Native.Nat.{ℕ, zero, suc, _+_, _-_, _≤_, _<_}
 use native.Mathlib.Omega.{arith}
 use lib.ListN.{getD, set, length, replicate}
 use Rattle.definitions.specs.Polynomial.{prod, rem}
-use Rattle.definitions.specs.Ranking.{largestTop}
+use Rattle.definitions.specs.Generator.{largestDegree}
 use Rattle.number_laws.specs.Lists.{set-each}
 use Rattle.polynomial_laws.specs.Power.{power-zero, rem-one}
 use Rattle.polynomial.specs.Modulus.{Modulus, modulus-positive, modulus-one}
@@ -14,7 +14,7 @@ use Rattle.net_laws.specs.Point.{digitRow, digitRow-first, digitRow-next}
 use Rattle.digit_rows.specs.Powers.{Residues, FirstPowers}
 
 module _ {p lead : ℕ} (h : Modulus p lead) where
-  pub powers-start : (q : ℕ) → FirstPowers q p 1 (replicate largestTop 1)
+  pub powers-start : (q : ℕ) → FirstPowers q p 1 (replicate largestDegree 1)
   powers-start q zero l = sym (digitRow-first p q 0 ∙ rw power-zero (rem-one p (h .large)))
   powers-start q (suc i) l = absurd (omega arith)
 

@@ -5,7 +5,6 @@ use mathlib.Core.List.{List}
 use Prim.Native.Nat.{ℕ, _*_, _<_}
 use lib.ListN.{getD}
 use Rattle.definitions.specs.Polynomial.{rem}
-use Rattle.definitions.specs.Ranking.{largestTop}
 use Rattle.net_laws.specs.Point.{digitRow}
 
 abbrev pub Residues : ℕ → List ℕ → Type 0
@@ -15,9 +14,9 @@ Residues lead xs = (i : ℕ) → getD xs i 0 < lead
 abbrev pub FirstPowers : ℕ → ℕ → ℕ → List ℕ → Type 0
 FirstPowers q p n xs = (i : ℕ) → i < n → getD xs i 0 ≡ digitRow p q i 0
 
--- The powers of q modulo p, whose leading term is `lead`, one for each coordinate.
-pub record PowersOf (q p lead : ℕ) (xs : List ℕ) : Type 0 where
-  pub powers : FirstPowers q p largestTop xs
+-- The first n powers of q modulo p, whose leading term is `lead`, among residues.
+pub record PowersOf (q p lead n : ℕ) (xs : List ℕ) : Type 0 where
+  pub powers : FirstPowers q p n xs
   pub residues : Residues lead xs
 
 abbrev pub firstDigitRow : List ℕ → ℕ → ℕ

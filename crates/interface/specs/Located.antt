@@ -18,11 +18,12 @@ use Rattle.catalogue_results.specs.declared.FenyurkaBody.{FenyurkaBody}
 abbrev pub located : List ℕ → ℕ → FenyurkaBody
 located s m = bodyResult (seek.locating s m)
 
--- The refusal, T and the row count are those of a lookup.
+-- The refusal, T, the kind and the row count are those of a lookup.
 pub record SameLookup (values : List ℕ) (b : FenyurkaBody) : Type 0 where
   pub refusal : b .refusal ≡ value values 0
   pub top : b .top ≡ value values 1
-  pub rows : b .rows ≡ value values 2
+  pub gaps : b .gaps ≡ value values 2
+  pub rows : b .rows ≡ value values 3
 
 -- The part of the file that C takes lies within it, is the part that a lookup gives, and has room for the rows.
 pub record BodyPart (s part : List ℕ) (b : FenyurkaBody) : Type 0 where
@@ -35,8 +36,8 @@ module _ (s : List ℕ) (m : ℕ) where
   located-values = rw (← seek.located-numbers s m) (go (seek.locating s m))
     where
       go : (k : Located) → SameLookup (lookupValues (seek.numbersOf k)) (bodyResult k)
-      go (At b) = record { refusal = refl; top = refl; rows = refl }
-      go (Missing r) = record { refusal = refl; top = refl; rows = refl }
+      go (At b) = record { refusal = refl; top = refl; gaps = refl; rows = refl }
+      go (Missing r) = record { refusal = refl; top = refl; gaps = refl; rows = refl }
 
   pub located-part : BodyPart s (lookupPart s m) (located s m)
   located-part = rw (← seek.located-part s m) (go (seek.locating s m) refl)

@@ -2,11 +2,12 @@
 // A result holds the refusal's number, 0 where there is none, the K that refusal 5 carries, 0 for any other, and the values, 0 where there are none.
 // A refusal writes into no slice.
 ghost use mathlib.Core.Path.{_≡_};
-ghost use Rattle.definitions.specs.Answers.{judgementValues, quotientTestValues, uniformityValues, pageValues, pointsValues, openingValues, fileValues};
-ghost use Rattle.definitions.specs.Calls.{judgement, quotientTest, uniformity, counted, pageAnswer, pageSlice, pointsAnswer, pointsSlice};
+ghost use Rattle.definitions.specs.Answers.{judgementValues, quotientTestValues, uniformityValues, gapSumValues, pageValues, pointsValues};
+ghost use Rattle.definitions.specs.Answers.{openingValues, fileValues};
+ghost use Rattle.definitions.specs.Calls.{judgement, quotientTest, uniformity, counted, gapSum, pageAnswer, pageSlice, pointsAnswer, pointsSlice};
 ghost use Rattle.definitions.specs.Catalogue.{opening};
 ghost use Rattle.definitions.specs.Writing.{fileAnswer, fileBuffer};
-ghost use Rattle.results.specs.Results.{judgementResult, quotientsResult, tValueResult, pageResult, pointsResult};
+ghost use Rattle.results.specs.Results.{judgementResult, quotientsResult, tValueResult, gapsResult, pageResult, pointsResult};
 ghost use Rattle.catalogue_results.specs.Results.{catalogueResult, fileResult};
 ghost use Rattle.interface.specs.Requests.{pageOf, rowAtPlace};
 ghost use Rattle.interface.specs.Located.{located};
@@ -18,18 +19,20 @@ use catalogue_results::FenyurkaRow;
 use definitions::PageRequest;
 use definitions::Position;
 use definitions::Selection;
+use results::FenyurkaGaps;
 use results::FenyurkaJudgement;
 use results::FenyurkaPage;
 use results::FenyurkaPoints;
 use results::FenyurkaQuotients;
 use results::FenyurkaTValue;
 
-// Which ranked list is meant: the degree, the top dimension and the floor.
+// Which ranked list is meant: the degree, the top dimension, the floor, and whether its rows have Δ: 0 where not, any other number where so.
 #[repr(C)]
 pub struct FenyurkaList {
     pub degree: u32,
     pub top: u32,
     pub floor: u32,
+    pub gaps: u32,
 }
 
 // The request for a page of a list from a position.
@@ -40,6 +43,7 @@ fn page_request(list: FenyurkaList, position: Position) -> PageRequest
         degree: list.degree,
         top: list.top,
         floor: list.floor,
+        gaps: list.gaps != 0,
     };
     ranking::request(selected, position)
 }
@@ -79,6 +83,14 @@ pub extern "C" fn fenyurka_count_t_value(
     ensures { λ r. ⌜ r ≡ tValueResult (uniformityValues (counted degree p q dimension)) ⌝ }
 {
     results::t_value(counter::count_t_value(degree, p, q, dimension))
+}
+
+// The sum of resolution gaps of a pair.
+#[no_mangle]
+pub extern "C" fn fenyurka_sum_of_gaps(degree: u32, p: u32, q: u32) -> FenyurkaGaps
+    ensures { λ r. ⌜ r ≡ gapsResult (gapSumValues (gapSum degree p q)) ⌝ }
+{
+    results::gaps(gaps::sum_of_gaps(degree, p, q))
 }
 
 // The first rows of a ranked list: how many, and whether a further row exists.
@@ -128,7 +140,7 @@ pub extern "C" fn fenyurka_open(file: &[u8]) -> FenyurkaCatalogue
     catalogue_results::catalogue(catalogue::open(file))
 }
 
-// A degree's body: its top dimension and row count, where it lies in the file, and how many bytes it and a row of it have.
+// A degree's body: its top dimension, whether its rows have Δ, its row count, where it lies in the file, and how many bytes it and a row of it have.
 #[no_mangle]
 pub extern "C" fn fenyurka_lookup(file: &[u8], degree: u32) -> FenyurkaBody
     ensures { λ r. ⌜ r ≡ located (now (file .entry)) degree ⌝ }
@@ -143,11 +155,14 @@ pub extern "C" fn fenyurka_row(list: FenyurkaList, body: &[u8], place: usize) ->
 {
     let degree = list.degree;
     let top = list.top;
-    let next = catalogue_rows::place_behind(body, degree, top, place);
-    catalogue_results::row(catalogue_rows::row_at(body, degree, top, place), top, next)
+    let gaps = list.gaps != 0;
+    let next = catalogue_rows::place_behind(body, degree, top, gaps, place);
+    let row = catalogue_rows::row_at(body, degree, top, gaps, place);
+    catalogue_results::row(row, top, gaps, next)
 }
 
-// Writes the catalogue that entries ask for, degree, T, degree, T, .., each list at the floor, and says how many bytes it has.
+// Writes the catalogue that entries ask for, degree, T, degree, T, .., with T + 16 for rows with Δ, each list at the floor, and says how many bytes it
+// has.
 #[no_mangle]
 pub extern "C" fn fenyurka_write(floor: u32, entries: &[u32], file: &mut [u8]) -> FenyurkaFile
     ensures { λ r. ⌜ r ≡ fileResult (fileValues (fileAnswer floor (now (entries .entry)) (now (file .entry)))) ⌝ }

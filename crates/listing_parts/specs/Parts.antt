@@ -16,6 +16,7 @@ use Rattle.number_laws.specs.Truth.{by-test}
 use Rattle.number_laws.specs.Bounds.{lead-high}
 use Rattle.slice_laws.specs.Over.{over-front}
 use Rattle.ranking_laws.specs.Ranked.{ranked-few}
+use Rattle.search.specs.Frame.{width-most}
 use Rattle.cursor.specs.Left.{left, startOf, passed}
 use Rattle.cursor.specs.Passed.{passed-left, passed-on}
 use Rattle.cursor.specs.Turns.{left-start, start-reads}
@@ -220,7 +221,7 @@ rowsThatFit-some at s t h l w =
 pub row-room-most : (at : Printing) → Underway at → rowRoom at ≤ longestRow
 row-room-most (Refused n) u = omega arith
 row-room-most (Whole l size) u = omega arith
-row-room-most (Rows c size done) u = omega (arith, u .on-list .lawful .top .high)
+row-room-most (Rows c size done) u = width-most (u .on-list .lawful)
 row-room-most (Total n) u = omega arith
 row-room-most Nothing u = omega arith
 

@@ -1,4 +1,4 @@
--- How long the printed lines are: a number of 32 bits has at most ten digits, so 136 bytes hold a row of nine numbers and the line of its page,
+-- How long the printed lines are: a number of 32 bits has at most ten digits, so 147 bytes hold a row of ten numbers and the line of its page,
 -- and any other line. Assumes nothing.
 use mathlib.Core.Path.{_≡_, refl, ap, _∙_}
 use mathlib.Core.Bool.{Bool, true, false, cond, not, _||_}
@@ -21,7 +21,7 @@ use Rattle.listing_rows.specs.Printed.{stepText}
 
 -- The most bytes of a row and of the line of its page.
 abbrev pub stepRoom : ℕ
-stepRoom = 136
+stepRoom = 147
 
 -- ---- a row and the line of its page
 
@@ -30,7 +30,7 @@ unfolding rowBytes
 row-bytes [] h = omega arith
 row-bytes (n ∷ r) h = omega (arith, ten-digits n (h 0), row-bytes r (λ (i : ℕ). h (suc i)))
 
-row-room : (r : List ℕ) → length r ≤ longestRow → ((i : ℕ) → getD r i 0 < 2 ^ 32) → length (rowText r) ≤ 99
+row-room : (r : List ℕ) → length r ≤ longestRow → ((i : ℕ) → getD r i 0 < 2 ^ 32) → length (rowText r) ≤ 110
 row-room [] l h = omega (arith, row-none [] refl)
 row-room (n ∷ r) l h = omega (arith, row-some (n ∷ r) (λ e. omega arith), row-bytes (n ∷ r) h)
 

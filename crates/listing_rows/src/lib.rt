@@ -4,4 +4,4 @@ pub mod putting; // rows put into a text
 pub mod taking; // the next rows, as many as fit
 
 // The most bytes of a row and of the line of its page.
-pub const STEP_ROOM: usize = 136;
+pub const STEP_ROOM: usize = 147;

@@ -4,7 +4,7 @@
 use mathlib.Core.Path.{_≡_, refl, ap, _∙_}
 use mathlib.Core.Bool.{Bool, true, false, not}
 use mathlib.Core.List.{List}
-use Prim.Native.Nat.{ℕ, suc, _*_, _≤_, _<_}
+use Prim.Native.Nat.{ℕ, _*_, _≤_, _<_}
 use native.Mathlib.Nat.{mul-le-mul-right, zero-mul}
 use native.Mathlib.Omega.{arith}
 use lib.Dec.{eqb, ltb}
@@ -28,9 +28,9 @@ use Rattle.listing_start.specs.Left.{textLeft, Underway}
 use Rattle.listing_start.specs.declared.Printing.{Printing}
 use Rattle.listing_start.specs.declared.Printing.the-variants.{Refused, Whole}
 
--- The list that is asked for.
+-- The list that is asked for; the listing has no Δ.
 abbrev pub askedList : ℕ → ℕ → ℕ → Selection
-askedList m top floor = record { degree = m; top = top; floor = floor }
+askedList m top floor = record { degree = m; top = top; floor = floor; gaps = false }
 
 -- What is printed: an unreadable line or a page size above 1000 first, then the refusals of a page that holds `size` rows, then the list.
 unfoldable pub printingOf : Line → Printing
@@ -62,13 +62,13 @@ start-text s = printing-text (readLine s)
 -- ---- by the tests
 
 -- A page of `size` rows of some width holds a row exactly where the size is not 0.
-room-for-none : (w : ℕ) → ltb (length {A = ℕ} (replicate (0 * suc w) 0)) (suc w) ≡ true
-room-for-none w = lt-ltb _ (suc w) (rw (length-replicate {A = ℕ} (0 * suc w) 0, zero-mul (suc w)) (omega arith))
+room-for-none : (w : ℕ) → 1 ≤ w → ltb (length {A = ℕ} (replicate (0 * w) 0)) w ≡ true
+room-for-none w some = lt-ltb _ w (rw (length-replicate {A = ℕ} (0 * w) 0, zero-mul w) (omega arith))
 
-room-for-one : (w size : ℕ) → 1 ≤ size → ltb (length {A = ℕ} (replicate (size * suc w) 0)) (suc w) ≡ false
+room-for-one : (w size : ℕ) → 1 ≤ size → ltb (length {A = ℕ} (replicate (size * w) 0)) w ≡ false
 room-for-one w size h =
-    let many : 1 * suc w ≤ size * suc w = mul-le-mul-right (suc w) h in
-    le-ltb _ (suc w) (rw (length-replicate {A = ℕ} (size * suc w) 0) (omega arith))
+    let many : 1 * w ≤ size * w = mul-le-mul-right w h in
+    le-ltb _ w (rw (length-replicate {A = ℕ} (size * w) 0) (omega arith))
 
 pub printing-unreadable : printingOf Unreadable ≡ Refused unreadable
 unfolding printingOf
@@ -111,14 +111,16 @@ module _ (m top size floor : ℕ) where
         module _ (f : lawfulFloor floor ≡ true) where
           pub none-refused : size ≡ 0 → printingOf (Asked m top size floor) ≡ Refused (refusalNumber ShortSlice)
           unfolding paging positionSituations
-          none-refused z = refused (later (ap not d) (later (ap not t) (later (ap not f) (here (rw z (room-for-none top))))))
+          none-refused z =
+              let short = room-for-none (rowWidth (askedList m top floor)) (omega arith) in
+              refused (later (ap not d) (later (ap not t) (later (ap not f) (here (rw z short)))))
 
           pub all-listed : 1 ≤ size → printingOf (Asked m top size floor) ≡ Whole (askedList m top floor) size
           unfolding paging positionSituations
           all-listed some =
               by-situations
               ∙ unless-given refuse (Whole (askedList m top floor) size)
-              (passes (ap not d) (passes (ap not t) (passes (ap not f) (passes (room-for-one top size some) at-end))))
+              (passes (ap not d) (passes (ap not t) (passes (ap not f) (passes (room-for-one (rowWidth (askedList m top floor)) size some) at-end))))
 
 -- What is printed upon a line is lawful.
 pub start-underway : (line : Line) → Underway (printingOf line)

@@ -36,5 +36,11 @@ pub(crate) fn decide(degree: u32, top: u32, size: u32, floor: u32) -> Printing
     if size == 0 {
         return refuse(Refusal::ShortSlice);
     }
-    Printing::Whole(Selection { degree, top, floor }, size)
+    let list = Selection {
+        degree,
+        top,
+        floor,
+        gaps: false,
+    };
+    Printing::Whole(list, size)
 }

@@ -3,15 +3,16 @@
 -- mirror of each pair that it admits. Assumes nothing.
 use mathlib.Core.Path.{_≡_, sym, ap, _∙_, fun-ext}
 use mathlib.Core.Bool.{true}
-use mathlib.Core.List.{List, _∷_, map, List·Memᴰ}
+use mathlib.Core.List.{List, [], _∷_, _++_, map, List·Memᴰ}
 use Prim.Native.Nat.{ℕ, suc, _-_, _%_, _≤_}
 use native.Mathlib.Omega.{arith}
 use lib.ListN.{length, length-map}
 use Rattle.definitions.specs.declared.Selection.{Selection}
-use Rattle.definitions.specs.Number.{keep, numbers}
+use Rattle.definitions.specs.Number.{keep, numbers, putIf}
 use Rattle.definitions.specs.Generator.{leastDegree, period, wellFormed, step, accepted, Pair}
 use Rattle.definitions.specs.Net.{tValue}
-use Rattle.definitions.specs.Ranking.{leastTop, tValues, row, rowKey, allPairs, ranked}
+use Rattle.definitions.specs.Gaps.{sumOfGaps}
+use Rattle.definitions.specs.Ranking.{leastTop, tValues, ranks, row, rowKey, allPairs, ranked}
 use Rattle.number_laws.specs.Lists.{keep-in, keep-out, keep-once}
 use Rattle.polynomial_laws.specs.Power.{rem-one}
 use Rattle.fraction_laws.specs.WellFormed.{wellFormed-is}
@@ -40,7 +41,9 @@ module _ (m p q : ℕ) (low : leastDegree ≤ m) (w : wellFormed m p q ≡ true)
 
 module _ (l : Selection) (p q : ℕ) (low : leastDegree ≤ l .degree) (w : wellFormed (l .degree) p q ≡ true) (t : accepted (l .degree) p q ≡ true) where
   pub mirror-row : row l p (inverse (l .degree) p q)
-      ≡ p ∷ inverse (l .degree) p q ∷ (period (l .degree) - step (l .degree) p q) ∷ tValues (l .degree) (l .top) p q
+      ≡ p ∷ inverse (l .degree) p q ∷ (period (l .degree) - step (l .degree) p q)
+      ∷ tValues (l .degree) (l .top) p q ++ putIf (l .gaps) (sumOfGaps (l .degree) p (inverse (l .degree) p q)) []
+  unfolding ranks
   mirror-row = rw (row-def l p (inverse (l .degree) p q), mirror-step (l .degree) p q low w t, mirror-tValues (l .degree) p q low w t (l .top))
 
   pub mirror-ranked : l .floor ≤ 1 → List·Memᴰ (row l p (inverse (l .degree) p q)) (ranked l)

@@ -2,6 +2,7 @@
 use digit_rows::powers::powers_of;
 use least_weight::weight::least_weight;
 use limits::COORDINATES;
+use limits::LARGEST_TOP;
 ghost use mathlib.Core.Path.{_≡_};
 ghost use Prim.Native.Nat.{_-_, _^_, _≤_};
 ghost use Rattle.definitions.specs.Net.{tValue};
@@ -14,9 +15,9 @@ ghost use Rattle.net.specs.Bound.{Stop};
 // The powers of q modulo p, which are the same for every dimension.
 pub fn powers(degree: u32, p: u32, q: u32) -> [u32; COORDINATES]
     requires { ⌜ LawfulDegree degree × HasDegree p degree ⌝ }
-    ensures { λ w. ⌜ PowersOf q p (2 ^ degree) w ⌝ }
+    ensures { λ w. ⌜ PowersOf q p (2 ^ degree) largestTop w ⌝ }
 {
-    powers_of(q, p, 1 << degree)
+    powers_of(q, p, 1 << degree, LARGEST_TOP as usize)
 }
 
 // t(s), where `before` is t(s - 1) and `powers` are those of q.
@@ -31,7 +32,7 @@ pub fn next_t(
 ) -> u32
     requires { ⌜ LawfulDegree degree × HasDegree p degree ⌝ }
     requires { ⌜ Stop degree p q bound ⌝ }
-    requires { ⌜ PowersOf q p (2 ^ degree) (now powers) ⌝ }
+    requires { ⌜ PowersOf q p (2 ^ degree) largestTop (now powers) ⌝ }
     requires { ⌜ (2 ≤ s) × (s ≤ largestTop) ⌝ }
     requires { ⌜ before ≡ tValue degree p q (s - 1) ⌝ }
     ensures { λ t. ⌜ t ≡ tValue degree p q s ⌝ }

@@ -41,12 +41,12 @@ everyShare-in zero (suc k) test all = refl
 everyShare-in (suc s) k test all =
     every-in (suc k) _ (λ d l. everyShare-in s (k - d) (λ ds. test (d ∷ ds)) (λ ds len sum. all (d ∷ ds) (ap suc len) (omega arith)))
 
-everyBox-out : {ds rs : List ℕ} → Box ds rs → (test : List ℕ → Bool) → everyBox ds test ≡ true → test rs ≡ true
+pub everyBox-out : {ds rs : List ℕ} → Box ds rs → (test : List ℕ → Bool) → everyBox ds test ≡ true → test rs ≡ true
 unfolding everyBox
 everyBox-out none test t = t
 everyBox-out (more {d} {r} l b) test t = everyBox-out b (λ rs. test (r ∷ rs)) (every-out (2 ^ d) _ t r l)
 
-everyBox-in : (ds : List ℕ) (test : List ℕ → Bool) → ((rs : List ℕ) → Box ds rs → test rs ≡ true) → everyBox ds test ≡ true
+pub everyBox-in : (ds : List ℕ) (test : List ℕ → Bool) → ((rs : List ℕ) → Box ds rs → test rs ≡ true) → everyBox ds test ≡ true
 unfolding everyBox
 everyBox-in [] test all = all [] none
 everyBox-in (d ∷ ds) test all = every-in (2 ^ d) _ (λ r l. everyBox-in ds (λ rs. test (r ∷ rs)) (λ rs b. all (r ∷ rs) (more l b)))

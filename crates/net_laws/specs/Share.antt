@@ -44,7 +44,7 @@ unfoldable pub corner : List ℕ → List ℕ
 corner [] = []
 corner (d ∷ ds) = 0 ∷ corner ds
 
-length-firstRows : (f : ℕ → ℕ) (d : ℕ) (rs : List ℕ) → length (firstRows f d ++ rs) ≡ d + length rs
+pub length-firstRows : (f : ℕ → ℕ) (d : ℕ) (rs : List ℕ) → length (firstRows f d ++ rs) ≡ d + length rs
 unfolding firstRows
 length-firstRows f zero rs = omega arith
 length-firstRows f (suc d) rs = omega (arith, length-firstRows f d rs)
@@ -59,7 +59,7 @@ unfolding corner
 corner-box [] = none
 corner-box (d ∷ ds) = more (pow-pos d) (corner-box ds)
 
-corner-origin : (p q j : ℕ) (ds : List ℕ) → inBox p q j ds (corner ds) 0 ≡ true
+pub corner-origin : (p q j : ℕ) (ds : List ℕ) → inBox p q j ds (corner ds) 0 ≡ true
 unfolding corner inBox
 corner-origin p q j [] = refl
 corner-origin p q j (d ∷ ds) = ap₂ _&&_ (eq-eqb _ 0 (leading-origin p q j d)) (corner-origin p q (suc j) ds)
@@ -74,7 +74,7 @@ eqb-last x c r l = truth-equal _ _ (
 module _ (p : ℕ) (pos : 0 < p) (q : ℕ) where
   -- ---- boxes are cells
   -- the first d digits of coordinate j are r
-  abbrev begins : ℕ → ℕ → ℕ → ℕ → Bool
+  abbrev pub begins : ℕ → ℕ → ℕ → ℕ → Bool
   begins j d r h = eqb (leading p d (coordinate p q j h)) r
 
   -- and digit d is the last one of r
@@ -88,7 +88,7 @@ module _ (p : ℕ) (pos : 0 < p) (q : ℕ) where
   begins-more j d r h =
       rw (leading-more p pos q j d h) (eqb-last (leading p d (coordinate p q j h)) (pairing p (digitRow p q j d) h) r (pairing-lt p pos (digitRow p q j d) h))
 
-  powers-cell : (d r : ℕ) → d ≤ degree p → r < 2 ^ d → Cell p d [] (begins 0 d r)
+  pub powers-cell : (d r : ℕ) → d ≤ degree p → r < 2 ^ d → Cell p d [] (begins 0 d r)
   powers-cell zero r fits l = whole (λ h. begins-none 0 r h l)
   powers-cell (suc d) r fits l =
       at-power (powers-cell d (r / 2) (omega arith) (omega (arith, pow-suc 2 d))) (record {
@@ -98,7 +98,7 @@ module _ (p : ℕ) (pos : 0 < p) (q : ℕ) where
         says = λ h. rw (digitRow-power p pos q d fits) at (begins-more 0 d r h);
       })
 
-  digits-cell : {d : ℕ} {rs : List ℕ} {P T : ℕ → Bool} (j n r : ℕ) → r < 2 ^ n → Cell p d rs P → ((h : ℕ) → T h ≡ (begins j n r h && P h))
+  pub digits-cell : {d : ℕ} {rs : List ℕ} {P T : ℕ → Bool} (j n r : ℕ) → r < 2 ^ n → Cell p d rs P → ((h : ℕ) → T h ≡ (begins j n r h && P h))
       → Cell p d (firstRows (digitRow p q j) n ++ rs) T
   unfolding firstRows
   digits-cell {d} {rs} {P} j zero r l c says = subst (Cell p d rs) (fun-ext (λ h. sym (says h ∙ ap (λ (b : Bool). b && P h) (begins-none j r h l)))) c

@@ -8,6 +8,7 @@ use native.Mathlib.Nat.{zero-add, suc-add}
 use native.Mathlib.Omega.{arith}
 use native.Mathlib.Decide.{ℕ-discrete}
 use lib.Dec.{eqb}
+use mir.Val.{boolByte}
 use borrow.Author.Tests.{eq-eqb, ne-eqb}
 use Rattle.definitions.specs.Number.{count, bit}
 
@@ -25,9 +26,14 @@ count-every (suc n) = omega (arith, count-every n)
 pub count-all : (n : ℕ) (test : ℕ → Bool) → ((i : ℕ) → i < n → test i ≡ true) → count n test ≡ n
 count-all n test all = count-ext n test (λ i. true) all ∙ count-every n
 
-bit-most : (b : Bool) → bit b ≤ 1
+pub bit-most : (b : Bool) → bit b ≤ 1
 bit-most true = omega arith
 bit-most false = omega arith
+
+-- The code's `b as usize`.
+pub bool-byte : (b : Bool) → boolByte b ≡ bit b
+bool-byte true = refl
+bool-byte false = refl
 
 pub count-most : (n : ℕ) (test : ℕ → Bool) → count n test ≤ n
 unfolding count

@@ -10,7 +10,7 @@ ghost use Rattle.page_rows.specs.Serve.{Filled};
 use definitions::Position;
 use definitions::Selection;
 use limits::LONGEST_ROW;
-use search::frame;
+use row_order::width::width_of;
 use search::frame::Frame;
 use search::frame::Tally;
 use search::rank;
@@ -27,7 +27,7 @@ fn search_all(list: Selection, after: bool, last: &[u32], out: &mut [u32]) -> Se
     requires { ⌜ LawfulList list × (rowWidth list ≤ length (now last)) × (rowWidth list ≤ length (now out)) ⌝ }
     ensures { λ r. ⌜ Filled list (cutIf after (rowKey (take (rowWidth list) (now (last .entry))))) (now (out .entry)) r (now (out .exit)) ⌝ }
 {
-    let capacity = out.len() / frame::width_of(list);
+    let capacity = out.len() / width_of(list);
     let frame = Frame {
         list: list,
         capacity: capacity,

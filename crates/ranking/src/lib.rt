@@ -8,7 +8,7 @@ use definitions::Refusal;
 use definitions::Selection;
 use generator::pair::Verdict;
 use page_rows::serve;
-use search::frame;
+use row_order::width::width_of;
 
 pub mod position; // whether a position can be read from
 
@@ -20,6 +20,7 @@ pub fn request(list: Selection, position: Position) -> PageRequest
         degree: list.degree,
         top: list.top,
         floor: list.floor,
+        gaps: list.gaps,
         position: position,
     }
 }
@@ -34,6 +35,7 @@ pub fn page(request: PageRequest, out: &mut [u32]) -> PageAnswer
         degree: request.degree,
         top: request.top,
         floor: request.floor,
+        gaps: request.gaps,
     };
     let position = request.position;
     if !limits::is_lawful_degree(list.degree) {
@@ -48,7 +50,7 @@ pub fn page(request: PageRequest, out: &mut [u32]) -> PageAnswer
     match position::check_position(list.degree, list.floor, position) {
         Verdict::Refused(refusal) => PageAnswer::NoPage(refusal),
         Verdict::Passed => {
-            if out.len() < frame::width_of(list) {
+            if out.len() < width_of(list) {
                 return PageAnswer::NoPage(Refusal::ShortSlice);
             }
             let filled = serve::fill(list, position, out);

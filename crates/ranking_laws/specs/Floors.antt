@@ -10,7 +10,7 @@ use Rattle.definitions.specs.declared.Selection.{Selection}
 use Rattle.definitions.specs.Number.{keep}
 use Rattle.definitions.specs.Generator.{Pair, accepted, reachesFloor}
 use Rattle.definitions.specs.Pages.{start, sort}
-use Rattle.definitions.specs.Ranking.{row, rowKey, allPairs, listedPairs, ranked}
+use Rattle.definitions.specs.Ranking.{ranks, row, rowKey, allPairs, listedPairs, ranked}
 use Rattle.definitions.specs.Writing.{stepOf}
 use Rattle.number_laws.specs.Lists.{keep-in, keep-out}
 use Rattle.order_laws.specs.Floor.{acceptedAt-both, acceptedAt-accepted, small-floor-accepted}
@@ -18,9 +18,9 @@ use Rattle.page_laws.specs.Members.{Within}
 use Rattle.page_laws.specs.Ascending.{keep-ascends, same-members}
 use Rattle.ranking_laws.specs.Ranked.{ranked-ascends, ranked-in, ranked-out}
 
--- The list of the same degree and top dimension at another floor.
+-- The list of the same degree, top dimension and kind at another floor.
 abbrev pub atFloor : ℕ → Selection → Selection
-atFloor floor l = record { degree = l .degree; top = l .top; floor = floor }
+atFloor floor l = record { degree = l .degree; top = l .top; floor = floor; gaps = l .gaps }
 
 -- A row whose step is at least a floor.
 abbrev pub longStep : ℕ → List ℕ → Bool
@@ -29,7 +29,7 @@ longStep floor r = leb floor (stepOf r)
 module _ (l : Selection) where
   -- A row has the floor nowhere in it.
   row-at : (floor p q : ℕ) → row (atFloor floor l) p q ≡ row l p q
-  unfolding row
+  unfolding row ranks
   row-at floor p q = refl
 
   -- Its step is the pair's.
@@ -74,7 +74,7 @@ module _ (l : Selection) where
   pub small-floor-list : (floor : ℕ) → floor ≤ 1
       → ranked (atFloor floor l)
       ≡ sort rowKey (map (λ (s : Pair). row l (s .p) (s .q)) (keep (λ (s : Pair). accepted (l .degree) (s .p) (s .q)) (allPairs (l .degree))))
-  unfolding ranked listedPairs row
+  unfolding ranked listedPairs row ranks
   small-floor-list floor h =
       ap (λ (test : Pair → Bool). sort rowKey (map (λ (s : Pair). row l (s .p) (s .q)) (keep test (allPairs (l .degree)))))
       (fun-ext (λ (s : Pair). small-floor-accepted (l .degree) floor (s .p) (s .q) h))

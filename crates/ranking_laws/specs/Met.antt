@@ -1,32 +1,58 @@
 -- The rows met on a walk: those of the pairs that the selected list has. The list's rule is that its pairs are those accepted at its floor, and that
--- the t-values follow p, q, σ in a row; each law is the rule's. Assumes nothing.
-use mathlib.Core.Path.{_≡_, refl, _∙_}
-use mathlib.Core.Bool.{true, false}
+-- the t-values, and Δ where the list has it, follow p, q, σ in a row; each law is the rule's. Assumes nothing.
+use mathlib.Core.Path.{_≡_, refl, sym, ap₂, _∙_}
+use mathlib.Core.Bool.{Bool, true, false}
 use mathlib.Core.List.{List, [], _∷_, _++_}
-use Prim.Native.Nat.{ℕ, suc, _-_, _≤_}
+use Prim.Native.Nat.{ℕ, suc, _+_, _-_, _≤_, _<_}
 use native.Mathlib.Omega.{arith}
-use lib.ListN.{length, length-map}
+use lib.ListN.{length, getD, length-append, length-map, List·getD-append}
+use lib.Seq.{getD-append-seam}
 use Rattle.definitions.specs.declared.Selection.{Selection}
-use Rattle.definitions.specs.Number.{numbers}
+use Rattle.definitions.specs.Number.{bit, numbers, putIf}
 use Rattle.definitions.specs.Generator.{Pair, acceptedAt, step}
 use Rattle.definitions.specs.Net.{tValue}
-use Rattle.definitions.specs.Ranking.{leastTop, rowWidth, tValues, row, rowKey}
+use Rattle.definitions.specs.Gaps.{sumOfGaps}
+use Rattle.definitions.specs.Ranking.{leastTop, rowWidth, tValues, ranks, row, rowKey}
 use Rattle.number_laws.specs.Lists.{numbers-length}
 use Rattle.order_laws.specs.Floor.{acceptedAt-accepted}
 use Rattle.page_laws.specs.Rows.{Wide}
 use Rattle.ranking_laws.specs.Rule.{Rule, widthBy, metBy, metBy-none, metBy-more, metBy-less, metBy-append, metBy-length, metBy-wide, row-width}
 
-pub row-def : (l : Selection) (p q : ℕ) → row l p q ≡ p ∷ q ∷ step (l .degree) p q ∷ tValues (l .degree) (l .top) p q
+pub row-def : (l : Selection) (p q : ℕ) → row l p q ≡ p ∷ q ∷ step (l .degree) p q ∷ ranks l p q
 unfolding row
 row-def l p q = refl
 
-pub row-key : (l : Selection) (p q : ℕ) → rowKey (row l p q) ≡ tValues (l .degree) (l .top) p q ++ (p ∷ q ∷ [])
+pub row-key : (l : Selection) (p q : ℕ) → rowKey (row l p q) ≡ ranks l p q ++ (p ∷ q ∷ [])
 unfolding rowKey row
 row-key l p q = refl
 
 pub tValues-length : (m top p q : ℕ) → length (tValues m top p q) ≡ suc top - leastTop
 unfolding tValues
 tValues-length m top p q = length-map (numbers leastTop (suc top - leastTop)) (tValue m p q) ∙ numbers-length leastTop (suc top - leastTop)
+
+put-length : (b : Bool) (n : ℕ) → length (putIf b n []) ≡ bit b
+put-length true n = refl
+put-length false n = refl
+
+-- How many numbers rank a pair of a list.
+abbrev pub rankCount : Selection → ℕ
+rankCount l = suc (l .top) - leastTop + bit (l .gaps)
+
+pub ranks-length : (l : Selection) (p q : ℕ) → length (ranks l p q) ≡ rankCount l
+unfolding ranks
+ranks-length l p q = length-append (tValues (l .degree) (l .top) p q) _ ∙ ap₂ _+_ (tValues-length (l .degree) (l .top) p q) (put-length (l .gaps) _)
+
+-- The first of them are the t-values, and Δ stands behind these.
+pub ranks-value : (l : Selection) (p q k : ℕ) → k < suc (l .top) - leastTop → getD (ranks l p q) k 0 ≡ getD (tValues (l .degree) (l .top) p q) k 0
+unfolding ranks
+ranks-value l p q k h = List·getD-append (tValues (l .degree) (l .top) p q) _ 0 k (omega (arith, tValues-length (l .degree) (l .top) p q))
+
+pub ranks-delta : (l : Selection) (p q : ℕ) → l .gaps ≡ true → getD (ranks l p q) (suc (l .top) - leastTop) 0 ≡ sumOfGaps (l .degree) p q
+unfolding ranks
+ranks-delta l p q e =
+    let values = tValues (l .degree) (l .top) p q in
+    let δ = sumOfGaps (l .degree) p q in
+    ap₂ (λ (b : Bool) (n : ℕ). getD (values ++ putIf b δ []) n 0) e (sym (tValues-length (l .degree) (l .top) p q)) ∙ getD-append-seam values δ [] 0
 
 -- The rule of a selected list.
 abbrev pub ruleOf : Selection → Rule
@@ -35,10 +61,10 @@ ruleOf l = record {
   admits = λ (s : Pair). acceptedAt (l .degree) (l .floor) (s .p) (s .q);
   only-accepted = λ s t. acceptedAt-accepted (l .degree) (l .floor) (s .p) (s .q) t;
   row = λ (s : Pair). row l (s .p) (s .q);
-  ranks = λ (s : Pair). tValues (l .degree) (l .top) (s .p) (s .q);
+  ranks = λ (s : Pair). ranks l (s .p) (s .q);
   begins = λ s. row-def l (s .p) (s .q);
-  many = suc (l .top) - leastTop;
-  sized = λ s. tValues-length (l .degree) (l .top) (s .p) (s .q);
+  many = rankCount l;
+  sized = λ s. ranks-length l (s .p) (s .q);
 }
 
 pub width-is : (l : Selection) → leastTop ≤ l .top → widthBy (ruleOf l) ≡ rowWidth l

@@ -6,6 +6,7 @@ use lib.ListN.{getD}
 use Rattle.results.specs.declared.FenyurkaJudgement.{FenyurkaJudgement}
 use Rattle.results.specs.declared.FenyurkaQuotients.{FenyurkaQuotients}
 use Rattle.results.specs.declared.FenyurkaTValue.{FenyurkaTValue}
+use Rattle.results.specs.declared.FenyurkaGaps.{FenyurkaGaps}
 use Rattle.results.specs.declared.FenyurkaPage.{FenyurkaPage}
 use Rattle.results.specs.declared.FenyurkaPoints.{FenyurkaPoints}
 
@@ -21,6 +22,9 @@ quotientsResult values = record { refusal = value values 0; «quotient_degree» 
 
 abbrev pub tValueResult : List ℕ → FenyurkaTValue
 tValueResult values = record { refusal = value values 0; t = value values 1 }
+
+abbrev pub gapsResult : List ℕ → FenyurkaGaps
+gapsResult values = record { refusal = value values 0; delta = value values 1 }
 
 abbrev pub pageResult : List ℕ → FenyurkaPage
 pageResult values = record { refusal = value values 0; «quotient_degree» = value values 1; more = value values 3; count = value values 2 }

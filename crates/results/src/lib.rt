@@ -1,5 +1,6 @@
 // An answer as a struct that C takes by value: the refusal's number, 0 where there is none; `quotient_degree`, the K that refusal 5 carries, 0 for any
 // other; and the answer's values, 0 where it has none.
+use definitions::GapSum;
 use definitions::Judgement;
 use definitions::PageAnswer;
 use definitions::PointsAnswer;
@@ -7,8 +8,8 @@ use definitions::QuotientTest;
 use definitions::Uniformity;
 ghost use mathlib.Core.Path.{_≡_};
 ghost use Rattle.definitions.specs.Number.{bit};
-ghost use Rattle.definitions.specs.Answers.{judgementValues, quotientTestValues, uniformityValues, pageValues, pointsValues};
-ghost use Rattle.results.specs.Results.{judgementResult, quotientsResult, tValueResult, pageResult, pointsResult};
+ghost use Rattle.definitions.specs.Answers.{judgementValues, quotientTestValues, uniformityValues, gapSumValues, pageValues, pointsValues};
+ghost use Rattle.results.specs.Results.{judgementResult, quotientsResult, tValueResult, gapsResult, pageResult, pointsResult};
 
 // A pair's step.
 #[repr(C)]
@@ -75,6 +76,25 @@ pub fn t_value(answer: Uniformity) -> FenyurkaTValue
         Uniformity::Undefined(refusal) => FenyurkaTValue {
             refusal: answers::refusal_number(refusal),
             t: 0,
+        },
+    }
+}
+
+// The sum of resolution gaps Δ.
+#[repr(C)]
+pub struct FenyurkaGaps {
+    pub refusal: u32,
+    pub delta: u32,
+}
+
+pub fn gaps(answer: GapSum) -> FenyurkaGaps
+    ensures { λ r. ⌜ r ≡ gapsResult (gapSumValues answer) ⌝ }
+{
+    match answer {
+        GapSum::Sum(delta) => FenyurkaGaps { refusal: 0, delta },
+        GapSum::NoSum(refusal) => FenyurkaGaps {
+            refusal: answers::refusal_number(refusal),
+            delta: 0,
         },
     }
 }

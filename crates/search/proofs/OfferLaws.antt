@@ -19,7 +19,7 @@ use Rattle.page_laws.specs.Rows.{rowsOf, slot-rows, Kept, inserted, inserted-no
 use Rattle.page_laws.specs.Search.{Search, counted, offered-kept, offered-left, offer-one, offer-none}
 use Rattle.ranking_laws.specs.Met.{met, met-none, met-more, met-less}
 use Rattle.search.specs.Frame.{widthOf, cutIf, cutFrom, offers, offer, Searching, Keeping}
-use Rattle.search.specs.Standing.{Begun, rowIn, Weighed}
+use Rattle.search.specs.Standing.{Valued, Begun, rowIn, Weighed}
 use Rattle.search.specs.declared.frame.Frame.{Frame}
 use Rattle.search.specs.declared.rank.Standing.{Standing}
 use Rattle.search.specs.declared.rank.Standing.the-variants.{Low, High, Open}
@@ -92,9 +92,9 @@ module _ (f : Frame) (last : List ℕ) (s : Search) (p q : ℕ) where
         let at = slot rowKey (rowIn f p q) (rowsOf (widthOf f) (s .n) (s .out)) in
         offer-counted (h .0) (inserted-none rowKey (widthOf f) (f .capacity) (rowIn f p q) (s .out) (s .n) at refl (h .1) (omega (arith, h .1, h .2)))
 
-    pub open-begun : x ≡ Open → Begun (f .list) p q w
+    pub open-valued : x ≡ Open → Valued (f .list) p q w
     unfolding Weighed
-    open-begun e = weighed-as e
+    open-valued e = weighed-as e
 
 pub keeping : {f : Frame} {last : List ℕ} {room : ℕ} {s : Search} → Searching f last room s → Keeping f (s .n) (s .out)
 keeping r = record { lawful = r .framed .lawful; few = r .good .few; room = r .good .room; order = r .good .order }

@@ -22,13 +22,13 @@ use Rattle.page_laws.specs.Rows.{rowsOf, row-at, length-rows, slot-rows-up}
 use Rattle.page_laws.specs.Slot.{slot}
 use Rattle.page_laws.specs.Search.{Search, Good, start-good}
 use Rattle.ranking_laws.specs.Met.{row-length}
-use Rattle.row_order.specs.Ranks.{ranksOf}
-use Rattle.search.specs.Frame.{LawfulList, widthOf, cutIf, cutFrom, Searching}
-use Rattle.search.specs.Standing.{begun, Begun, rowIn, Weighed}
+use Rattle.row_order.specs.Ranks.{valuesEnd, ranksOf}
+use Rattle.search.specs.Frame.{LawfulList, width-most, widthOf, cutIf, cutFrom, Searching}
+use Rattle.search.specs.Standing.{begun, Valued, rowIn, Weighed}
 use Rattle.search.specs.declared.frame.Frame.{Frame}
 use Rattle.search.specs.declared.rank.Standing.{Standing}
 use Rattle.search.specs.declared.rank.Standing.the-variants.{Low, High, Open}
-use Rattle.search.proofs.RowLaws.{ranks-begun, begun-length}
+use Rattle.search.proofs.RowLaws.{ranks-begun}
 
 -- ---- both tests of a comparison
 
@@ -148,12 +148,9 @@ module _ {f : Frame} {last : List ℕ} {x : Search} (r : Searching f last 1 x) (
       let later = behind-other s (widthOf f) from to (rowIn f p q) long behind lent (rw ranks-whole at (b .1)) in
       (behind-above (r .good) full some (rowIn f p q) later, full, behind-slot (r .good) full some (rowIn f p q) later)
 
-  pub open-known : length w ≡ longestRow → widthOf f ≤ s → Weighed f last x p q w Open
+  pub open-known : length w ≡ longestRow → s ≡ valuesEnd (f .list) → Weighed f last x p q w Open
   unfolding Weighed
-  open-known e all =
-      let z : s ≡ widthOf f = omega arith in
-      let whole = take-all (widthOf f) (begun (f .list) p q) (omega (arith, begun-length (f .list) p q (r .framed .lawful .top .low))) in
-      record { sized = e; is = (rw z at written) ∙ whole }
+  open-known e all = record { sized = e; is = rw all at written }
 
 -- ---- a search with no position and with room left
 
@@ -166,14 +163,14 @@ nothing spare = record { out = spare; n = 0; count = 0 }
 module _ (l : Selection) (spare : List ℕ) where
   pub free-searching : LawfulList l → length spare ≡ longestRow → Searching (free l) spare 1 (nothing spare)
   free-searching h e = record {
-    framed = record { lawful = h; some = omega arith; lent = omega (arith, h .top .high) };
-    good = start-good rowKey (rowWidth l) 1 (cutFrom (free l) spare) spare (rw one-mul (omega (arith, h .top .high)));
+    framed = record { lawful = h; some = omega arith; lent = omega (arith, width-most h) };
+    good = start-good rowKey (rowWidth l) 1 (cutFrom (free l) spare) spare (rw one-mul (omega (arith, width-most h)));
     few = omega arith;
   }
 
   -- Neither of the other two can be.
-  pub free-open : (p q : ℕ) (w : List ℕ) (x : Standing) → Weighed (free l) spare (nothing spare) p q w x → Begun l p q w
+  pub free-open : (p q : ℕ) (w : List ℕ) (x : Standing) → Weighed (free l) spare (nothing spare) p q w x → Valued l p q w
   unfolding Weighed
   free-open p q w Low t = not-both (above-start (rowKey (rowIn (free l) p q))) t
   free-open p q w High t = absurd (omega (arith, t .1))
-  free-open p q w Open b = b
+  free-open p q w Open v = v

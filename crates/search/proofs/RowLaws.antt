@@ -1,20 +1,23 @@
 -- A row that begins p, q, σ, and the same row while σ is not known and 0 stands in its place: both have one key and rank by the same numbers, as
--- the key has no σ in it. So it is for a pair's row, whose numbers behind σ are its t-values. Assumes nothing.
+-- the key has no σ in it. So it is for a pair's row, whose numbers behind σ are its t-values, and Δ where the list has it. Assumes nothing.
 use mathlib.Core.Path.{_≡_, refl, sym, ap, _∙_}
+use mathlib.Core.Bool.{true, false}
 use mathlib.Core.List.{List, [], _∷_, map}
 use Prim.Native.Nat.{ℕ, zero, suc, _+_, _-_, _<_, _≤_}
 use native.Mathlib.Numerals.{add-one}
 use native.Mathlib.Omega.{arith}
-use lib.ListN.{length, take, getD, set}
-use lib.Seq.{take-suc, take-suc-set, take-set-lt}
+use lib.ListN.{length, take, getD, set, length-set}
+use lib.Seq.{take-all, take-suc, take-suc-set, take-set-lt}
 use Rattle.definitions.specs.declared.Selection.{Selection}
-use Rattle.definitions.specs.Number.{numbers}
+use Rattle.definitions.specs.Number.{bit, numbers}
 use Rattle.definitions.specs.Generator.{step}
 use Rattle.definitions.specs.Net.{tValue}
-use Rattle.definitions.specs.Ranking.{leastTop, longestRow, ranksFrom, rowWidth, rowKey, tValues, row}
-use Rattle.ranking_laws.specs.Met.{row-def, row-length}
-use Rattle.row_order.specs.Ranks.{ranksOf}
-use Rattle.search.specs.Standing.{begun, Begun}
+use Rattle.definitions.specs.Gaps.{sumOfGaps}
+use Rattle.definitions.specs.Ranking.{leastTop, longestRow, ranksFrom, rowWidth, rowKey, tValues, ranks, row}
+use Rattle.ranking_laws.specs.Met.{row-def, row-length, ranks-value, ranks-delta}
+use Rattle.row_order.specs.Ranks.{valuesEnd, ranksOf}
+use Rattle.search.specs.Frame.{LawfulList, width-most}
+use Rattle.search.specs.Standing.{begun, Valued, Begun}
 
 -- ---- any row
 
@@ -61,13 +64,22 @@ module _ (l : Selection) (p q : ℕ) where
   unfolding begun
   begun-length h = sym (ap length (row-def l p q)) ∙ row-length l p q h
 
-  pub begun-at : (s : ℕ) → ranksFrom ≤ s → s < rowWidth l → getD (begun l p q) s 0 ≡ tValue (l .degree) p q s
+  pub begun-at : (s : ℕ) → ranksFrom ≤ s → s < valuesEnd l → getD (begun l p q) s 0 ≡ tValue (l .degree) p q s
   unfolding begun tValues
   begun-at zero h b = absurd (omega arith)
   begun-at (suc zero) h b = absurd (omega arith)
   begun-at (suc (suc zero)) h b = absurd (omega arith)
   begun-at (suc (suc (suc k))) h b =
-      map-numbers (tValue (l .degree) p q) leastTop (suc (l .top) - leastTop) k (omega arith) ∙ ap (tValue (l .degree) p q) (omega arith)
+      ranks-value l p q k (omega arith)
+      ∙ map-numbers (tValue (l .degree) p q) leastTop (suc (l .top) - leastTop) k (omega arith)
+      ∙ ap (tValue (l .degree) p q) (omega arith)
+
+  -- Behind t(T) stands Δ, where the list has it.
+  begun-delta : leastTop ≤ l .top → l .gaps ≡ true → getD (begun l p q) (valuesEnd l) 0 ≡ sumOfGaps (l .degree) p q
+  unfolding begun
+  begun-delta h e =
+      let end : valuesEnd l ≡ suc (suc (suc (suc (l .top) - leastTop))) = omega arith in
+      ap (λ (n : ℕ). getD (p ∷ q ∷ 0 ∷ ranks l p q) n 0) end ∙ ranks-delta l p q e
 
   pub begun-first : (w : List ℕ) → length w ≡ longestRow → take ranksFrom (set (set (set w 0 p) 1 q) 2 0) ≡ take ranksFrom (begun l p q)
   unfolding begun
@@ -75,6 +87,24 @@ module _ (l : Selection) (p q : ℕ) where
   begun-first (a ∷ []) e = absurd (omega arith)
   begun-first (a ∷ b ∷ []) e = absurd (omega arith)
   begun-first (a ∷ b ∷ c ∷ w) e = refl
+
+  module _ (h : LawfulList l) {w : List ℕ} (v : Valued l p q w) where
+    -- Without Δ the row ends with t(T).
+    pub valued-whole : l .gaps ≡ false → Begun l p q w
+    valued-whole e =
+        let end : rowWidth l ≡ valuesEnd l = omega (arith, ap bit e) in
+        record { sized = v .sized; is = rw end (v .is ∙ take-all (valuesEnd l) (begun l p q) (omega (arith, begun-length (h .top .low)))) }
+
+    pub delta-written : l .gaps ≡ true → {δ : ℕ} → δ ≡ sumOfGaps (l .degree) p q → Begun l p q (set w (valuesEnd l) δ)
+    delta-written e {δ} is =
+        let end : rowWidth l ≡ valuesEnd l + 1 = omega (arith, ap bit e) in
+        let long = begun-length (h .top .low) in
+        let next = take-next w (begun l p q) (valuesEnd l) δ (omega (arith, v .sized, width-most h)) (omega (arith, long)) (v .is)
+        (is ∙ sym (begun-delta (h .top .low) e)) in
+        record {
+          sized = length-set w (valuesEnd l) δ ∙ v .sized;
+          is = rw end (next ∙ take-all (valuesEnd l + 1) (begun l p q) (omega (arith, long)));
+        }
 
   module _ {w : List ℕ} (b : Begun l p q w) where
     pub key-known : rowKey (take (rowWidth l) w) ≡ rowKey (row l p q)

@@ -2,12 +2,14 @@
 use mathlib.Core.Bool.{Bool, true, false}
 use mathlib.Core.List.{List}
 use Prim.Native.Nat.{ℕ, _+_, _*_, _^_, _≤_}
+use native.Mathlib.Omega.{arith}
 use lib.ListN.{length, take}
 use Rattle.definitions.specs.declared.Selection.{Selection}
 use Rattle.definitions.specs.Generator.{largestDegree}
 use Rattle.definitions.specs.Pages.{Cut, start, after}
-use Rattle.definitions.specs.Ranking.{rowWidth, rowKey}
+use Rattle.definitions.specs.Ranking.{longestRow, rowWidth, rowKey}
 use Rattle.number_laws.specs.Bounds.{LawfulDegree, LawfulTop}
+use Rattle.number_laws.specs.Count.{bit-most}
 use Rattle.page_laws.specs.Slot.{Ordered}
 use Rattle.page_laws.specs.Rows.{rowsOf}
 use Rattle.page_laws.specs.Search.{Search, Good, offered, offerAll}
@@ -18,6 +20,9 @@ use Rattle.search.specs.declared.frame.Tally.{Tally}
 pub record LawfulList (l : Selection) : Type 0 where
   pub degree : LawfulDegree (l .degree)
   pub top : LawfulTop (l .top)
+
+pub width-most : {l : Selection} → LawfulList l → rowWidth l ≤ longestRow
+width-most {l} h = omega (arith, h .top .high, bit-most (l .gaps))
 
 abbrev pub widthOf : Frame → ℕ
 widthOf f = rowWidth (f .list)

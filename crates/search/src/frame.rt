@@ -1,6 +1,4 @@
 // A search for the rows of a page: what it is made with, and what it has counted.
-ghost use mathlib.Core.Path.{_≡_};
-ghost use Rattle.definitions.specs.Ranking.{rowWidth};
 use definitions::Selection;
 
 // The list that is searched, the rows that fit, and whether the page begins after a row or at the start.
@@ -14,11 +12,4 @@ pub struct Frame {
 pub struct Tally {
     pub kept: usize,
     pub count: usize,
-}
-
-// How many numbers a row of the list has.
-pub fn width_of(list: Selection) -> usize
-    ensures { λ w. ⌜ w ≡ rowWidth list ⌝ }
-{
-    list.top as usize + 1
 }

@@ -15,7 +15,6 @@ ghost use Rattle.search.specs.Frame.{widthOf, cutFrom, stateOf, offers, 
 ghost use Rattle.search.specs.Standing.{rowIn, Begun};
 use crate::frame::Frame;
 use crate::frame::Tally;
-use crate::frame::width_of;
 use crate::rank;
 use crate::rank::Standing;
 use insertion::rows::insert_row;
@@ -27,6 +26,7 @@ use orders::step::find_step;
 use row_order::compare::STEP;
 use row_order::compare::stands_after;
 use row_order::slot::find_slot;
+use row_order::width::width_of;
 
 // Whether a row stands above the cut.
 fn is_above(row: &[u32], f: Frame, last: &[u32]) -> bool
@@ -60,7 +60,7 @@ fn keep_row(p: u32, q: u32, out: &mut [u32], n: usize, f: Frame, row: &mut [u32]
     n
 }
 
-// Offers a row whose t-values are known.
+// Offers a row of which all is known but the step.
 fn offer_known(
     p: u32,
     q: u32,
@@ -104,7 +104,10 @@ fn offer_row(p: u32, q: u32, out: &mut [u32], t: Tally, f: Frame, last: &[u32]) 
             kept: t.kept,
             count: t.count + 1,
         },
-        Standing::Open => offer_known(p, q, out, t, f, last, &mut numbers),
+        Standing::Open => {
+            rank::write_delta(f.list, p, q, &mut numbers);
+            offer_known(p, q, out, t, f, last, &mut numbers)
+        }
     }
 }
 

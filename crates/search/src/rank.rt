@@ -1,4 +1,4 @@
-// Where a pair's key stands among the rows kept, by its t-values one after the other, as far as they are needed.
+// Where a pair's key stands among the rows kept, by its t-values one after the other, as far as they are needed; and its whole key.
 ghost use mathlib.Core.Path.{_≡_};
 ghost use mathlib.Core.Bool.{true, _&&_};
 ghost use Prim.Native.Nat.{_-_, _*_, _≤_};
@@ -10,11 +10,11 @@ ghost use Rattle.definitions.specs.Ranking.{ranksFrom, longestRow};
 ghost use Rattle.fraction_laws.specs.WellFormed.{WellFormed};
 ghost use Rattle.row_order.specs.Ranks.{ranksOf};
 ghost use Rattle.search.specs.Frame.{LawfulList, widthOf, stateOf, Searching};
-ghost use Rattle.search.specs.Standing.{Begun, Weighed};
+ghost use Rattle.search.specs.Standing.{Valued, Begun, Weighed};
 use crate::frame::Frame;
 use crate::frame::Tally;
-use crate::frame::width_of;
 use definitions::Selection;
+use gaps::sum::resolution_gaps;
 use limits::LONGEST_ROW;
 use net::bound::INVERTIBLE;
 use net::values::next_t;
@@ -22,6 +22,8 @@ use net::values::powers;
 use row_order::compare::RANKS_FROM;
 use row_order::compare::STEP;
 use row_order::compare::ranks_before;
+use row_order::width::values_end;
+use row_order::width::width_of;
 
 // Where a key stands: not above the cut; above it and behind every row kept, with no room left; or neither is known.
 pub enum Standing {
@@ -72,14 +74,14 @@ pub fn weigh(
 {
     let list = f.list;
     let m = list.degree;
-    let width = width_of(list);
+    let end = values_end(list);
     row[0] = p;
     row[1] = q;
     row[STEP] = 0;
     let powers = powers(m, p, q);
     let mut value = next_t(m, p, q, 2, 0, &powers, INVERTIBLE);
     let mut s: usize = RANKS_FROM;
-    while s < width {
+    while s < end {
         value = next_t(m, p, q, s, value, &powers, INVERTIBLE);
         row[s] = value;
         s += 1;
@@ -93,7 +95,19 @@ pub fn weigh(
     Standing::Open
 }
 
-// Writes the key of an accepted pair to `row`: p, q, 0 for the step, and all its t-values. A search with no position and with room left never stops
+// Writes Δ behind the t-values, where the list has it.
+pub fn write_delta(list: Selection, p: u32, q: u32, row: &mut [u32])
+    requires { ⌜ LawfulList list ⌝ }
+    requires { ⌜ WellFormed (list .degree) p q ⌝ }
+    requires { ⌜ Valued list p q (now row) ⌝ }
+    ensures { λ _. ⌜ Begun list p q (now (row .exit)) ⌝ }
+{
+    if list.gaps {
+        row[values_end(list)] = resolution_gaps(list.degree, p, q);
+    }
+}
+
+// Writes the key of an accepted pair to `row`: p, q, 0 for the step, and all that ranks it. A search with no position and with room left never stops
 // early.
 pub fn write_key(list: Selection, p: u32, q: u32, row: &mut [u32])
     requires { ⌜ LawfulList list ⌝ }
@@ -110,4 +124,5 @@ pub fn write_key(list: Selection, p: u32, q: u32, row: &mut [u32])
     };
     let none = Tally { kept: 0, count: 0 };
     weigh(p, q, &spare, none, free, &spare, row);
+    write_delta(list, p, q, row);
 }

@@ -22,13 +22,13 @@ Nearer r′ r = behind r′ < behind r
 pub nearer-wf : WellFounded Nearer
 nearer-wf = InvImage·wf behind (Nat·lt-wfRel .wf)
 
-pub moved-on : (r r′ : Reader) → isRow (nextRow (r .degree) (r .top) (now (r .body)) (r .place)) ≡ true
-    → r′ .body ≡ r .body → r′ .place ≡ nextPlace (r .degree) (r .top) (now (r .body)) (r .place) → Nearer r′ r
-moved-on r r′ row body place = go (atRow (r .degree) (r .top) (now (r .body)) (r .place)) refl
+pub moved-on : (r r′ : Reader) → isRow (nextRow (r .degree) (r .top) (r .gaps) (now (r .body)) (r .place)) ≡ true
+    → r′ .body ≡ r .body → r′ .place ≡ nextPlace (r .degree) (r .top) (r .gaps) (now (r .body)) (r .place) → Nearer r′ r
+moved-on r r′ row body place = go (atRow (r .degree) (r .top) (r .gaps) (now (r .body)) (r .place)) refl
   where
-    go : (b : Bool) → atRow (r .degree) (r .top) (now (r .body)) (r .place) ≡ b → Nearer r′ r
-    go false e = absurd (false≢true (sym (ap isRow (next-end _ _ _ _ e)) ∙ row))
+    go : (b : Bool) → atRow (r .degree) (r .top) (r .gaps) (now (r .body)) (r .place) ≡ b → Nearer r′ r
+    go false e = absurd (false≢true (sym (ap isRow (next-end _ _ _ _ _ e)) ∙ row))
     go true e =
-        let whole = at-row-out (r .degree) (r .top) (now (r .body)) (r .place) e .whole in
+        let whole = at-row-out (r .degree) (r .top) (r .gaps) (now (r .body)) (r .place) e .whole in
         let same = ap (λ b. length (now b)) body in
-        omega (arith, whole, same, place, next-place-row _ _ _ _ e, row-size-least (r .degree) (r .top))
+        omega (arith, whole, same, place, next-place-row _ _ _ _ _ e, row-size-least (r .degree) (r .top) (r .gaps))

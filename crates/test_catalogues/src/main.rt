@@ -1,10 +1,10 @@
 // Catalogues whole and damaged: each two lines of the input are a degree and a file in hexadecimal. Printed are what opening and looking up answer,
 // and what a reader of the degree hands out, to its end:
 //     f LENGTH n ENTRIES                        the file's length, and how many degrees it has
-//     d DEGREE l LENGTH T TOP r ROWS            the degree, the length of its body, T and the row count
+//     d DEGREE l LENGTH T TOP r ROWS            the degree, the length of its body, T and the row count; D for T where the rows have Δ
 //     @ PLACE > BEHIND .                        no row stands at this place of the body, and the place stays
 //     R NUMBER                                  the number that a reader carries
-//     + p q σ t(3) .. t(8)                      a row
+//     + p q σ t(3) .. t(8)                      a row, and behind it Δ where it is not 0
 //     .                                         the end
 // In place of what is refused stands ! and the number.
 mod lookup; // opening, and looking a degree up
@@ -12,7 +12,7 @@ mod print; // what is printed with
 mod walk; // a reader, from its first row to its end
 
 // As many degrees and files as the input has.
-const CATALOGUES: u32 = 103;
+const CATALOGUES: u32 = 163;
 
 // More bytes than the longest line.
 const LINE_ROOM: usize = 320;

@@ -31,6 +31,13 @@ fn further(n: u32) {
     number(n as u64);
 }
 
+// Δ, where it is not 0.
+fn gap_sum(n: u32) {
+    if n > 0 {
+        further(n);
+    }
+}
+
 fn row(r: Row) {
     byte(b'+');
     further(r.p);
@@ -42,6 +49,7 @@ fn row(r: Row) {
     further(r.t6);
     further(r.t7);
     further(r.t8);
+    gap_sum(r.delta);
     byte(b'\n');
 }
 

@@ -111,6 +111,7 @@ fn page(position: Position, slice: &mut [u32]) {
         degree: 3,
         top: 4,
         floor: NO_FLOOR,
+        gaps: false,
     };
     print_page(results::page(ranking::page(ranking::request(list, position), slice)));
 }

@@ -68,6 +68,7 @@ fn ask(m: u32, top: u32, floor: u32, p: u32, q: u32, first: u32) {
         degree: m,
         top,
         floor,
+        gaps: false,
     };
     judge(m, floor, p, q);
     page(b" page ", list, Position::After(p, q));

@@ -42,6 +42,7 @@ fn page(m: u32, p: u32, q: u32) {
         degree: m,
         top: 3,
         floor: NO_FLOOR,
+        gaps: false,
     };
     let answer = results::page(ranking::page(
         ranking::request(list, Position::After(p, q)),

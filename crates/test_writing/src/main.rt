@@ -10,7 +10,7 @@ use definitions::FileAnswer;
 use libc::STDOUT_FILENO;
 
 // As many lines as the input has.
-const LINES: u32 = 149;
+const LINES: u32 = 325;
 
 const LINE_ROOM: usize = 320;
 

@@ -1,5 +1,5 @@
-// Writes the catalogue that a line of standard input asks for to standard output: the floor, then degree, T, degree, T, .. A refusal goes to standard
-// error. What is written is proved of `catalogue_line`; that it is written no contract can say.
+// Writes the catalogue that a line of standard input asks for to standard output: the floor, then degree, T, degree, T, .., with T + 16 for rows with Δ.
+// A refusal goes to standard error. What is written is proved of `catalogue_line`; that it is written no contract can say.
 ghost use Prim.Native.Nat.{_≤_};
 ghost use lib.ListN.{length};
 ghost use Rattle.writing_laws.specs.Longest.{longestFile};

@@ -1,15 +1,16 @@
--- What a catalogue holds, by the definitions that opening, looking up and reading follow: for each entry, in order, its degree, and T and the rows
--- that a lookup and a reader of that degree give. A catalogue that is made of lawful lists holds these lists, and has no other degree.
+-- What a catalogue holds, by the definitions that opening, looking up and reading follow: for each entry, in order, its degree, and T, the kind and the
+-- rows that a lookup and a reader of that degree give. A catalogue that is made of lawful lists holds these lists, and has no other degree.
 -- Assumes nothing.
 use mathlib.Core.Path.{_≡_, refl, sym, ap, ap₂, _∙_, subst}
-use mathlib.Core.Bool.{true}
+use mathlib.Core.Bool.{Bool, true, false}
 use mathlib.Core.List.{List, [], _∷_, _++_, map, map-map, append-nil, List·Memᴰ, List·Memᴰ·head, List·Memᴰ·tail, Memᴰ·of-map}
 use Prim.Native.Nat.{ℕ, zero, suc, _+_, _<_}
 use native.Mathlib.Nat.{add-zero}
 use native.Mathlib.Omega.{arith}
 use lib.ListN.{length, getD, replicate}
+use Rattle.definitions.specs.Number.{bit}
 use Rattle.definitions.specs.Generator.{lawfulDegree}
-use Rattle.definitions.specs.Catalogue.{byteAt, entrySize, firstEntry, behindEntry, behindEntries, lookupNumbers, lookupPart, readerTop}
+use Rattle.definitions.specs.Catalogue.{byteAt, entrySize, firstEntry, behindEntry, behindEntries, lookupNumbers, lookupPart, readerTop, readerGaps}
 use Rattle.definitions.specs.declared.NextRow.{NextRow}
 use Rattle.definitions.specs.declared.NextRow.the-variants.{Found, End}
 use Rattle.definitions.specs.declared.Lookup.{Lookup}
@@ -28,17 +29,17 @@ use Rattle.catalogue_laws.specs.RoundTrip.{noList, written-numbers, written-row
 
 -- What a reader of a degree hands out in n calls.
 abbrev pub readBy : List ℕ → ℕ → ℕ → List NextRow
-readBy s m n = handsOut n m (readerTop s m) (lookupPart s m) 0
+readBy s m n = handsOut n m (readerTop s m) (readerGaps s m) (lookupPart s m) 0
 
--- The T + 1 numbers of a row that is handed out.
-abbrev pub numbersRead : ℕ → NextRow → List ℕ
-numbersRead top (Found r) = numbersUpTo top r
-numbersRead top End = []
+-- The numbers of a row that is handed out: T + 1, and T + 2 with Δ.
+abbrev pub numbersRead : ℕ → Bool → NextRow → List ℕ
+numbersRead top gaps (Found r) = numbersUpTo top gaps r
+numbersRead top gaps End = []
 
--- The list of a degree: T and as many rows as the lookup says; no rows where it is refused.
+-- The list of a degree: T, the kind and as many rows as the lookup says; no rows where it is refused.
 unfoldable pub listBy : List ℕ → ℕ → Lookup → Listed
-listBy s m (Body top rows) = record { degree = m; top = top; rows = map (numbersRead top) (readBy s m rows) }
-listBy s m (NoBody r) = record { degree = m; top = 0; rows = [] }
+listBy s m (Body top gaps rows) = record { degree = m; top = top; gaps = gaps; rows = map (numbersRead top gaps) (readBy s m rows) }
+listBy s m (NoBody r) = record { degree = m; top = 0; gaps = false; rows = [] }
 
 unfoldable pub heldOf : List ℕ → ℕ → Listed
 heldOf s m = listBy s m (lookupNumbers s m)
@@ -91,15 +92,16 @@ pub lawful-member : {last : ℕ} {ls : List Listed} {l : Listed} → LawfulLists
 lawful-member (more a h f) (List·Memᴰ·head e) = subst LawfulListed (sym e) h
 lawful-member (more a h f) (List·Memᴰ·tail i) = lawful-member f i
 
--- A row's T + 1 numbers are given back by the row that is handed out.
-numbers-back : (l : Listed) → LawfulListed l → map (numbersRead (l .top)) (map (λ (r : List ℕ). Found (rowOf r)) (l .rows)) ≡ l .rows
+-- A row's numbers are given back by the row that is handed out.
+numbers-back : (l : Listed) → LawfulListed l
+    → map (numbersRead (l .top) (l .gaps)) (map (λ (r : List ℕ). Found (rowOf (l .top) (l .gaps) r)) (l .rows)) ≡ l .rows
 numbers-back l h =
-    map-map (numbersRead (l .top)) (λ (r : List ℕ). Found (rowOf r)) (l .rows)
-    ∙ map-same (λ (r : List ℕ). numbersUpTo (l .top) (rowOf r)) (l .rows)
+    map-map (numbersRead (l .top) (l .gaps)) (λ (r : List ℕ). Found (rowOf (l .top) (l .gaps) r)) (l .rows)
+    ∙ map-same (λ (r : List ℕ). numbersUpTo (l .top) (l .gaps) (rowOf (l .top) (l .gaps) r)) (l .rows)
     (λ r i.
     let a = indexed [] (l .rows) i in
-    let width : length r ≡ suc (l .top) = ap length (sym (a .is)) ∙ h .each (a .index) (a .below) .width in
-    numbers-of-row (l .top) r width (h .lawful-top .high))
+    let width : length r ≡ suc (l .top) + bit (l .gaps) = ap length (sym (a .is)) ∙ h .each (a .index) (a .below) .width in
+    numbers-of-row (l .top) (l .gaps) r width (h .lawful-top .high))
 
 -- ---- the theorems
 
@@ -117,19 +119,25 @@ module _ (ls : List Listed) (h : LawfulLists 0 ls) where
     abbrev at : Indexed noList ls l
     at = indexed noList ls i
 
-    pub numbers-held : lookupNumbers file (l .degree) ≡ Body (l .top) (length (l .rows))
+    pub numbers-held : lookupNumbers file (l .degree) ≡ Body (l .top) (l .gaps) (length (l .rows))
     numbers-held = rw (at .is) at (written-numbers ls h (at .index) (at .below))
 
-    pub rows-held : (n : ℕ) → readBy file (l .degree) (length (l .rows) + n) ≡ map (λ (r : List ℕ). Found (rowOf r)) (l .rows) ++ replicate n End
+    pub rows-held : (n : ℕ)
+        → readBy file (l .degree) (length (l .rows) + n) ≡ map (λ (r : List ℕ). Found (rowOf (l .top) (l .gaps) r)) (l .rows) ++ replicate n End
     rows-held n = rw (at .is) at (written-rows ls h (at .index) (at .below) n)
 
     pub list-held : heldOf file (l .degree) ≡ l
     unfolding heldOf listBy
     list-held =
-        let read : readBy file (l .degree) (length (l .rows)) ≡ map (λ (r : List ℕ). Found (rowOf r)) (l .rows) =
+        let read : readBy file (l .degree) (length (l .rows)) ≡ map (λ (r : List ℕ). Found (rowOf (l .top) (l .gaps) r)) (l .rows) =
         rw add-zero at (rows-held 0) ∙ append-nil _ in
         rw numbers-held
-        (λ j. record { degree = l .degree; top = l .top; rows = (ap (map (numbersRead (l .top))) read ∙ numbers-back l (lawful-member h i)) j })
+        (λ j. record {
+          degree = l .degree;
+          top = l .top;
+          gaps = l .gaps;
+          rows = (ap (map (numbersRead (l .top) (l .gaps))) read ∙ numbers-back l (lawful-member h i)) j;
+        })
 
   -- HELD: what a catalogue is made of is what it holds.
   pub lists-held : heldIn file ≡ ls

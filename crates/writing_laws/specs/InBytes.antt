@@ -1,7 +1,8 @@
--- Every number of a catalogue that is made of lawful lists is a byte: the count of entries, degrees, T and t-values because they are small, all others
--- because they are cut into bytes. Assumes nothing.
+-- Every number of a catalogue that is made of lawful lists is a byte: the count of entries, degrees, T with the kind, t-values and Δ because they are
+-- small, all others because they are cut into bytes. Assumes nothing.
 use mathlib.Core.Path.{_≡_, sym, _∙_, subst}
 use mathlib.Core.Logic.{_⊎_, inl, inr}
+use mathlib.Core.Bool.{Bool}
 use mathlib.Core.List.{List, [], _∷_, _++_, List·Memᴰ, List·Memᴰ·append-cases, List·Memᴰ·not-nil}
 use Prim.Native.Nat.{ℕ, zero, suc, _+_, _-_, _/_, _^_, _<_}
 use native.Mathlib.Omega.{arith}
@@ -13,7 +14,8 @@ use Rattle.number_laws.specs.Bounds.{LawfulDegree}
 use Rattle.number_laws.specs.Lists.{join-map-out}
 use Rattle.page_laws.specs.Members.{each-more}
 use Rattle.definitions.specs.Writing.{bytesOf, Listed, pOf, qOf, stepOf, rowBytes, bodyBytes, entryBytes, contentsBytes, behindLists, catalogueBytes}
-use Rattle.catalogue_laws.specs.Written.{LawfulRow}
+use Rattle.catalogue_laws.specs.Kinds.{marked-small}
+use Rattle.catalogue_laws.specs.Written.{LawfulRow, ranks-small}
 use Rattle.catalogue_laws.specs.Files.{LawfulListed, LawfulLists, none, more, lists-few}
 use Rattle.writing_laws.specs.Held.{indexed, lawful-member}
 
@@ -40,9 +42,9 @@ unfolding bytesOf
 cut-bytes zero n = empty-bytes
 cut-bytes (suc w) n = append-bytes (cut-bytes w (n / 256)) (more-bytes (omega arith) empty-bytes)
 
-row-bytes : (m top : ℕ) (r : List ℕ) → LawfulDegree m → LawfulRow m top r → InBytes (rowBytes m r)
+row-bytes : (m top : ℕ) (gaps : Bool) (r : List ℕ) → LawfulDegree m → LawfulRow m top gaps r → InBytes (rowBytes m r)
 unfolding rowBytes
-row-bytes m top r d h =
+row-bytes m top gaps r d h =
     append-bytes (append-bytes (append-bytes (cut-bytes (numberSize m) (pOf r - 2 ^ m)) (cut-bytes (numberSize m) (qOf r)))
     (cut-bytes (numberSize m) (stepOf r))) values
   where
@@ -50,22 +52,23 @@ row-bytes m top r d h =
     values b i =
         let a = indexed 0 (drop ranksFrom r) i in
         let e : getD r (ranksFrom + a .index) 0 ≡ b = sym (getD-drop ranksFrom r (a .index) 0) ∙ a .is in
-        let most = h .t-most (ranksFrom + a .index) (omega arith) (omega (arith, a .below, length-drop ranksFrom r, h .width)) in
-        omega (arith, d .high)
+        let small = ranks-small m top gaps r d h (ranksFrom + a .index) (omega arith) (omega (arith, a .below, length-drop ranksFrom r)) in
+        omega arith
 
 body-bytes : (l : Listed) → LawfulListed l → InBytes (bodyBytes l)
 unfolding bodyBytes
 body-bytes l h b i =
     let of = join-map-out (rowBytes (l .degree)) (l .rows) i in
     let a = indexed [] (l .rows) (of .1) in
-    row-bytes (l .degree) (l .top) (of .0) (h .lawful-degree) (subst (LawfulRow (l .degree) (l .top)) (a .is) (h .each (a .index) (a .below))) b (of .2)
+    row-bytes (l .degree) (l .top) (l .gaps) (of .0) (h .lawful-degree)
+    (subst (LawfulRow (l .degree) (l .top) (l .gaps)) (a .is) (h .each (a .index) (a .below))) b (of .2)
 
 contents-bytes : {last : ℕ} {ls : List Listed} → LawfulLists last ls → (at : ℕ) → InBytes (contentsBytes ls at)
 unfolding contentsBytes entryBytes
 contents-bytes none at = empty-bytes
 contents-bytes (more {l = l} a h f) at =
     append-bytes
-    (more-bytes (omega (arith, h .lawful-degree .high)) (more-bytes (omega (arith, h .lawful-top .high))
+    (more-bytes (omega (arith, h .lawful-degree .high)) (more-bytes (marked-small (l .top) (l .gaps) (h .lawful-top))
     (append-bytes (cut-bytes (countSize (l .degree)) (length (l .rows))) (cut-bytes offsetSize at))))
     (contents-bytes f (at + length (bodyBytes l)))
 

@@ -29,8 +29,8 @@ threeRows = 3 * longestRowSize
 listSize-most : (l : Selection) → LawfulDegree (l .degree) → LawfulTop (l .top) → listSize l ≤ longestEntry + threeRows * 2 ^ (l .degree - 2)
 unfolding listSize
 listSize-most l d t =
-    let row : length (ranked l) * rowSize (l .degree) (l .top) ≤ length (ranked l) * longestRowSize =
-    mul-le-mul-left (length (ranked l)) (row-size-most (l .degree) (l .top) (t .high)) in
+    let row : length (ranked l) * rowSize (l .degree) (l .top) (l .gaps) ≤ length (ranked l) * longestRowSize =
+    mul-le-mul-left (length (ranked l)) (row-size-most (l .degree) (l .top) (l .gaps) (t .high)) in
     omega (arith, ranked-most l (d .low), entry-size-most (l .degree))
 
 -- The halves of 2^(m-1), the first no less than what lies below `last`.

@@ -3,7 +3,7 @@
 -- (`Few`) and each number fits its field (`Fields`), so the ranked lists are lawful, and a catalogue of lawful lists holds them (`Held`).
 -- Assumes nothing.
 use mathlib.Core.Path.{_≡_, refl, ap, _∙_}
-use mathlib.Core.Bool.{true, and-eq-true-iff}
+use mathlib.Core.Bool.{true, false, and-eq-true-iff}
 use mathlib.Core.List.{List, [], _∷_, _++_, map, List·Memᴰ, Memᴰ·map, Memᴰ·of-map}
 use Prim.Native.Nat.{ℕ, zero, suc, _+_, _*_, _^_, _<_}
 use native.Mathlib.Omega.{arith}
@@ -66,7 +66,7 @@ entering-lawful floor ls (passes degrees (passes tops (passes in-range (passes o
 
 -- An entry where there is none.
 abbrev pub noEntry : Selection
-noEntry = record { degree = 0; top = 0; floor = 0 }
+noEntry = record { degree = 0; top = 0; floor = 0; gaps = false }
 
 -- Each of such entries is lawful.
 pub record LawfulEntry (l : Selection) : Type 0 where
@@ -101,18 +101,19 @@ module _ (ls : List Selection) (h : LawfulEntries 0 ls) where
   unfolding rankedFile
   file-opens = written-opens lists (lists-lawful h) ∙ ap Entries (length-map ls rankedList)
 
-  -- ROUND TRIP: the same degrees, T and rows, in order.
+  -- ROUND TRIP: the same degrees, T, kinds and rows, in order.
   pub file-held : heldIn (rankedFile ls) ≡ map rankedList ls
   unfolding rankedFile
   file-held = lists-held lists (lists-lawful h)
 
   -- The same of one degree, by a lookup and by a reader.
   module _ (l : Selection) (i : List·Memᴰ l ls) where
-    pub file-numbers : lookupNumbers (rankedFile ls) (l .degree) ≡ Body (l .top) (length (ranked l))
+    pub file-numbers : lookupNumbers (rankedFile ls) (l .degree) ≡ Body (l .top) (l .gaps) (length (ranked l))
     unfolding rankedFile rankedList
     file-numbers = numbers-held lists (lists-lawful h) (rankedList l) (Memᴰ·map rankedList i)
 
-    pub file-rows : (n : ℕ) → readBy (rankedFile ls) (l .degree) (length (ranked l) + n) ≡ map (λ (r : List ℕ). Found (rowOf r)) (ranked l) ++ replicate n End
+    pub file-rows : (n : ℕ)
+        → readBy (rankedFile ls) (l .degree) (length (ranked l) + n) ≡ map (λ (r : List ℕ). Found (rowOf (l .top) (l .gaps) r)) (ranked l) ++ replicate n End
     unfolding rankedFile rankedList
     file-rows = rows-held lists (lists-lawful h) (rankedList l) (Memᴰ·map rankedList i)
 
@@ -128,7 +129,7 @@ module _ (ls : List Selection) (h : LawfulEntries 0 ls) where
 
 -- The bytes of an entry and of its body.
 unfoldable pub listSize : Selection → ℕ
-listSize l = entrySize (l .degree) + length (ranked l) * rowSize (l .degree) (l .top)
+listSize l = entrySize (l .degree) + length (ranked l) * rowSize (l .degree) (l .top) (l .gaps)
 
 -- The first byte, and these of each entry.
 unfoldable pub fileSize : List Selection → ℕ
@@ -166,6 +167,6 @@ unfolding rankedFile catalogueBytes contentsBytes
 file-none = refl
 
 -- Document 01's catalogue of 41 bytes, which has floor 0.
-pub file-printed : rankedFile (record { degree = 3; top = 4; floor = noFloor } ∷ []) ≡ printed
+pub file-printed : rankedFile (record { degree = 3; top = 4; floor = noFloor; gaps = false } ∷ []) ≡ printed
 unfolding rankedFile rankedList
 file-printed = printed-bytes

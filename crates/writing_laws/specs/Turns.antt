@@ -68,7 +68,7 @@ lists ls = map rankedList ls
 
 -- ---- sizes, list by list
 
-pub body-size-small : (l : Selection) → LawfulDegree (l .degree) → LawfulTop (l .top) → length (ranked l) * rowSize (l .degree) (l .top) < 2 ^ 32
+pub body-size-small : (l : Selection) → LawfulDegree (l .degree) → LawfulTop (l .top) → length (ranked l) * rowSize (l .degree) (l .top) (l .gaps) < 2 ^ 32
 unfolding rankedList
 body-size-small l d t = let h = list-lawful l d t in omega (arith, body-most (rankedList l) h, body-length (rankedList l) h)
 
@@ -89,12 +89,12 @@ module _ (ls : List Selection) (lawful : LawfulEntries 0 ls) (k : ℕ) (h : k < 
   abbrev listAt : Selection
   listAt = getD ls k noEntry
 
-  body-size : length (bodyBytes (rankedList listAt)) ≡ length (ranked listAt) * rowSize (listAt .degree) (listAt .top)
+  body-size : length (bodyBytes (rankedList listAt)) ≡ length (ranked listAt) * rowSize (listAt .degree) (listAt .top) (listAt .gaps)
   unfolding rankedList
   body-size = let l = entry-at lawful k h in body-length (rankedList listAt) (list-lawful listAt (l .degree-lawful) (l .top-lawful))
 
   pub bodies-turn : length (bodiesBytes (lists (drop k ls)))
-      ≡ length (ranked listAt) * rowSize (listAt .degree) (listAt .top) + length (bodiesBytes (lists (drop (suc k) ls)))
+      ≡ length (ranked listAt) * rowSize (listAt .degree) (listAt .top) (listAt .gaps) + length (bodiesBytes (lists (drop (suc k) ls)))
   bodies-turn =
       ap (λ (x : List Selection). length (bodiesBytes (lists x))) (drop-cons ls k noEntry h)
       ∙ length-append (bodyBytes (rankedList listAt)) (bodiesBytes (lists (drop (suc k) ls)))
@@ -145,7 +145,7 @@ module _ (ls : List Selection) (lawful : LawfulEntries 0 ls) (s : List ℕ) (roo
       pub entry-now : LawfulEntry l
       entry-now = entry-at lawful k h
 
-      size-is : length bodyNow ≡ length (ranked l) * rowSize (l .degree) (l .top)
+      size-is : length bodyNow ≡ length (ranked l) * rowSize (l .degree) (l .top) (l .gaps)
       size-is = body-size ls lawful k h
 
       entry-size : length entryNow ≡ entrySize (l .degree)
@@ -159,7 +159,7 @@ module _ (ls : List Selection) (lawful : LawfulEntries 0 ls) (s : List ℕ) (roo
       contents-split = contents-turn ls k h place
 
       -- The next body ends within the buffer and the next entry before the bodies; the place of the body fits its bytes.
-      pub body-fits : at + length (ranked l) * rowSize (l .degree) (l .top) ≤ length t
+      pub body-fits : at + length (ranked l) * rowSize (l .degree) (l .top) (l .gaps) ≤ length t
       body-fits = omega (arith, f .bodies, f .kept, bodies-split, size-is)
 
       pub entry-before : place + entrySize (l .degree) ≤ at
@@ -171,7 +171,7 @@ module _ (ls : List Selection) (lawful : LawfulEntries 0 ls) (s : List ℕ) (roo
       body-kept : length (over at bodyNow t) ≡ length t
       body-kept = length-over at bodyNow t (omega (arith, body-fits, size-is))
 
-      pub filing-turn : Filing ls s (suc k) (place + entrySize (l .degree)) (at + length (ranked l) * rowSize (l .degree) (l .top))
+      pub filing-turn : Filing ls s (suc k) (place + entrySize (l .degree)) (at + length (ranked l) * rowSize (l .degree) (l .top) (l .gaps))
           (over place entryNow (over at bodyNow t))
       filing-turn = record {
         contents = omega (arith, f .contents, contents-split);
@@ -180,7 +180,8 @@ module _ (ls : List Selection) (lawful : LawfulEntries 0 ls) (s : List ℕ) (roo
         whole = step;
       }
         where
-          step : leftOver rest (place + entrySize (l .degree)) (at + length (ranked l) * rowSize (l .degree) (l .top)) (over place entryNow (over at bodyNow t))
+          step : leftOver rest (place + entrySize (l .degree)) (at + length (ranked l) * rowSize (l .degree) (l .top) (l .gaps))
+              (over place entryNow (over at bodyNow t))
               ≡ over 0 (rankedFile ls) s
           step =
               ap₂ (λ (i n : ℕ). leftOver rest i n (over place entryNow (over at bodyNow t)))

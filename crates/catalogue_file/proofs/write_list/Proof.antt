@@ -29,7 +29,7 @@ rows-cast c =
 
 -- How many bytes the body has.
 size-is : (c : tie.After-row-size) → let b = written (entered c) in let l = start b .args .list in
-    b .write-body .result * c .row-size .result ≡ length (ranked l) * rowSize (l .degree) (l .top)
+    b .write-body .result * c .row-size .result ≡ length (ranked l) * rowSize (l .degree) (l .top) (l .gaps)
 size-is c = ap₂ _*_ (written (entered c) .write-body .ensures .0) (c .row-size .ensures)
 
 size-fits : tie.Need-mul-result

@@ -11,7 +11,7 @@ use Rattle.catalogue_measure.proofs.body_size.Statement.{statement}
 use Rattle.catalogue_measure.proofs.body_size.Tie as tie
 
 size-is : (c : tie.After-row-size) → let l = c .before .before .args .list in
-    c .before .count-rows .result * c .row-size .result ≡ length (ranked l) * rowSize (l .degree) (l .top)
+    c .before .count-rows .result * c .row-size .result ≡ length (ranked l) * rowSize (l .degree) (l .top) (l .gaps)
 size-is c = ap₂ _*_ (c .before .count-rows .ensures) (c .row-size .ensures)
 
 size-fits : tie.Need-mul-result

@@ -39,7 +39,7 @@ abbrev turn : tie.After-entry-size Measured remaining → tie.At-loop Measured r
 turn c = c .before .before .before
 
 more : (c : tie.After-entry-size Measured remaining) (b : ℕ) → let l = turn c .loop in let x = c .before .entry .result in
-    b ≡ length (ranked x) * rowSize (x .degree) (x .top)
+    b ≡ length (ranked x) * rowSize (x .degree) (x .top) (x .gaps)
     → laws.Measured (listed (turn c)) (l .k + 1) (l .contents + c .entry-size .result) (l .bodies + b)
 more c b e =
     let t = turn c in
@@ -48,7 +48,7 @@ more c b e =
     (c .entry-size .ensures) e
 
 sums-fit : (c : tie.After-entry-size Measured remaining) (b : ℕ) → let l = turn c .loop in let x = c .before .entry .result in
-    b ≡ length (ranked x) * rowSize (x .degree) (x .top) → l .contents + c .entry-size .result + (l .bodies + b) < 2 ^ 32
+    b ≡ length (ranked x) * rowSize (x .degree) (x .top) (x .gaps) → l .contents + c .entry-size .result + (l .bodies + b) < 2 ^ 32
 sums-fit c b e =
     let t = turn c in
     let l = t .loop in

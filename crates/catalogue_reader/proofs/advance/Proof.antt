@@ -65,28 +65,30 @@ module _ {M : Type 1} (𝓤 : URA M) (H : Heap 𝓤) (A : Atoms 𝓤) where
 
     -- The reader at another place.
     abbrev moved : ℕ → Reader
-    moved n = record { refusal = d .refusal; body = d .body; degree = d .degree; top = d .top; place = n }
+    moved n = record { refusal = d .refusal; body = d .body; degree = d .degree; top = d .top; gaps = d .gaps; place = n }
 
     exits : (n : ℕ) → n ≡ behind → ent 𝓤 (⋆ 𝓤 H A (‵ (usize .own n (vint w64 n ∷ [])) ∷ (‵ (flft κ q) ⊛ ‵ ftrue) ∷ ‵ Kept ∷ [])) (Exit (T′.lowered (moved n)))
     exits n e =
         qed W (‵ (usize .own n (vint w64 n ∷ [])) ∷ (‵ (flft κ q) ⊛ ‵ ftrue) ∷ ‵ Kept ∷ []) ∵
-        suffices ! _ (ends 𝓤 H A Held (advance.clauses 𝓤 H A mem run) (κ, tt) q d tt W (T′.lowered (moved n)) (moved n)) $ says ! (refl, refl, refl, refl, e) $
+        suffices ! _ (ends 𝓤 H A Held (advance.clauses 𝓤 H A mem run) (κ, tt) q d tt W (T′.lowered (moved n)) (moved n)) $
+        says ! (refl, refl, refl, refl, refl, e) $
         move ! (1 ∷ []) $ frame ! $ move ! (1 ∷ 0 ∷ []) $ use1 W (‵ Kept ⊛ ‵ Kept) (twice 𝓤 H A W κ d) $ split ! $
         nothing ! $ move ! (1 ∷ 0 ∷ []) $ fjoin ! $ frame ! $
         -- [what the reader owns; what the number owns]
-        by ! (own-put 𝓤 H A W (Declares (κ, tt)) (laws (κ, tt)) 4 (all-fields d) n (T′.lowered d))
+        by ! (own-put 𝓤 H A W (Declares (κ, tt)) (laws (κ, tt)) 5 (all-fields d) n (T′.lowered d))
 
     module _ (C : Calls 𝓤 H) (Λ : Loops 𝓤 H) (fm : FmC 𝓤 H (W .laws) C) (known : Triple 𝓤 (C place-behind.name) PlaceBehind) where
-      -- Local i of eight, behind `front` things.
+      -- Local i of nine, behind `front` things.
       abbrev at : ℕ → ℕ → ℕ
-      at front i = local 8 front i
+      at front i = local 9 front i
 
       walk : Holds (hasTy (T′.mir (named 0)) (T′.lowered d)) × WT (T′.lowered d) → ent 𝓤 Entry (WpFn 𝓤 H C Λ code.function (T′.lowered d ∷ []) Exit)
       walk wt =
           qed W (raw Entry ∷ []) ∵ enter ! C Λ code.function (T′.lowered d ∷ []) _ $
-          alloc1 ! (λ l₀. alloc1 ! (λ l₁. alloc1 ! (λ l₂. alloc1 ! (λ l₃. alloc1 ! (λ l₄. alloc1 ! (λ l₅. alloc1 ! (λ l₆. alloc1 ! (λ l₇. alloc0 ! $ params1 ! $
+          alloc1 ! (λ l₀. alloc1 ! (λ l₁. alloc1 ! (λ l₂. alloc1 ! (λ l₃. alloc1 ! (λ l₄. alloc1 ! (λ l₅. alloc1 ! (λ l₆. alloc1 ! (λ l₇. alloc1 ! (λ l₈.
+          alloc0 ! $ params1 ! $
           pass1 ! (init ! (at 0 1) refl wt) $ pass0 ! $
-          -- the fields go into _2 .. _5 and _7
+          -- the fields go into _2 .. _6 and _8
           assigns ! (of-opd ! (load ! (from ! (fld ! refl (stop !))) (look-in ! (at 0 1) (sub ! 0 refl (whole !)))))
           (from ! (stop !)) (init ! (at 0 2) refl (tt, wt .1 .0)) $
           assigns ! (of-opd ! (load ! (from ! (fld ! refl (stop !))) (look-in ! (at 0 1) (sub ! 1 refl (whole !)))))
@@ -96,32 +98,39 @@ module _ {M : Type 1} (𝓤 : URA M) (H : Heap 𝓤) (A : Atoms 𝓤) where
           assigns ! (of-opd ! (load ! (from ! (fld ! refl (stop !))) (look-in ! (at 0 1) (sub ! 3 refl (whole !)))))
           (from ! (stop !)) (init ! (at 0 5) refl (tt, wt .1 .1 .1 .1 .0)) $
           assigns ! (of-opd ! (load ! (from ! (fld ! refl (stop !))) (look-in ! (at 0 1) (sub ! 4 refl (whole !)))))
-          (from ! (stop !)) (init ! (at 0 7) refl (tt, wt .1 .1 .1 .1 .1 .0)) $
+          (from ! (stop !)) (init ! (at 0 6) refl (tt, wt .1 .1 .1 .1 .1 .0)) $
+          assigns ! (of-opd ! (load ! (from ! (fld ! refl (stop !))) (look-in ! (at 0 1) (sub ! 5 refl (whole !)))))
+          (from ! (stop !)) (init ! (at 0 8) refl (tt, wt .1 .1 .1 .1 .1 .1 .0)) $
           -- what the reader owns stands behind all locals
           move ! ((2 + at 0 0) ∷ []) $
           use1 W (raw (PlaceBehind .pre (to-fields usize nextPlace 𝓤 H A W κ q d)) ⊛ ‵ Kept) (passed-on usize nextPlace 𝓤 H A W κ q d) $ split ! $
           calls-at ! fm PlaceBehind known (to-fields usize nextPlace 𝓤 H A W κ q d)
           (and-then ! (load ! (from ! (stop !)) (look ! (at 2 3) refl)) (and-then ! (load ! (from ! (stop !)) (look ! (at 2 4) refl))
-          (and-then ! (load ! (from ! (stop !)) (look ! (at 2 5) refl)) (and-then ! (load ! (from ! (stop !)) (look ! (at 2 7) refl)) (no-more !))))) (λ u.
+          (and-then ! (load ! (from ! (stop !)) (look ! (at 2 5) refl)) (and-then ! (load ! (from ! (stop !)) (look ! (at 2 6) refl))
+          (and-then ! (load ! (from ! (stop !)) (look ! (at 2 8) refl)) (no-more !)))))) (λ u.
           use1 W (later (some (λ (n : ℕ). ((‵ (flft κ q) ⊛ ‵ ftrue) ⊛ ‵ (usize .own n (u ∷ [])))
           ⊛ raw (ensured 𝓤 H A (of-fields usize) (gives usize nextPlace 𝓤) (κ, tt) (fields d) tt n)))) (id⊢ 𝓤 _) $ await ! tt $ pick ! (λ n.
           split ! $ move ! (1 ∷ []) $ use1 W (raw (fact 𝓤 (n ≡ behind))) (answered usize nextPlace 𝓤 H A W κ q d n) $
           heard ! (n ≡ behind) (λ e. split ! $ move ! (1 ∷ []) $
-          -- [the number; the token; what the reader owns; _7; …; room for _6; …; _1; …; room for _0; …]
+          -- [the number; the token; what the reader owns; _8; …; room for _7; …; _1; …; room for _0; …]
           peeks ! usize (Is usize) (shows 𝓤 H A usize) n (u ∷ []) (λ is.
-          land ! (from ! (stop !)) (init ! (at 3 6) refl (uint-lawful 𝓤 H A W w64 .typed n _ is .0)) $
-          rewrite ! (at 3 6) (λ (x : Val). ‵ (fat fullShare (tyInt w64) l₆ 0 x)) (ap only (is .0)) refl $
+          land ! (from ! (stop !)) (init ! (at 3 7) refl (uint-lawful 𝓤 H A W w64 .typed n _ is .0)) $
+          rewrite ! (at 3 7) (λ (x : Val). ‵ (fat fullShare (tyInt w64) l₇ 0 x)) (ap only (is .0)) refl $
           rewrite ! 0 (λ (x : Val). ‵ (usize .own n (x ∷ []))) (ap only (is .0)) refl $
           assigns ! (agg ! (and-then ! (load ! (from ! (stop !)) (look ! (at 3 2) refl)) (and-then ! (load ! (from ! (stop !)) (look ! (at 3 3) refl))
           (and-then ! (load ! (from ! (stop !)) (look ! (at 3 4) refl)) (and-then ! (load ! (from ! (stop !)) (look ! (at 3 5) refl))
-          (and-then ! (load ! (from ! (stop !)) (look ! (at 3 6) refl)) (no-more !)))))))
+          (and-then ! (load ! (from ! (stop !)) (look ! (at 3 6) refl)) (and-then ! (load ! (from ! (stop !)) (look ! (at 3 7) refl)) (no-more !))))))))
           (from ! (stop !))
-          (init ! (at 3 0) refl (tt, (wt .1 .0, (wt .1 .1 .0, (wt .1 .1 .1 .0, (wt .1 .1 .1 .1 .0, (record { fits = is .1 }, tt))))))) $
-          returns ! (look ! (at 3 0) refl) $ forget ! (at 3 7) refl $ forget ! (at 3 6) refl $ forget ! (at 3 5) refl $ forget ! (at 3 4) refl $
-          forget ! (at 3 3) refl $ forget ! (at 3 2) refl $ forget ! (at 3 1) refl $ forget ! (at 3 0) refl $
+          (init ! (at 3 0) refl (
+            tt,
+            (wt .1 .0, (wt .1 .1 .0, (wt .1 .1 .1 .0, (wt .1 .1 .1 .1 .0, (wt .1 .1 .1 .1 .1 .0, (record { fits = is .1 }, tt)))))),
+          )) $
+          returns ! (look ! (at 3 0) refl) $ forget ! (at 3 8) refl $ forget ! (at 3 7) refl $ forget ! (at 3 6) refl $ forget ! (at 3 5) refl $
+          forget ! (at 3 4) refl $ forget ! (at 3 3) refl $ forget ! (at 3 2) refl $ forget ! (at 3 1) refl $ forget ! (at 3 0) refl $
           move ! (with-room (at 3 0)) $ free1 ! $ move ! (with-room (at 3 1)) $ free1 ! $ move ! (with-room (at 3 2)) $ free1 ! $
           move ! (with-room (at 3 3)) $ free1 ! $ move ! (with-room (at 3 4)) $ free1 ! $ move ! (with-room (at 3 5)) $ free1 ! $
-          move ! (with-room (at 3 6)) $ free1 ! $ move ! (with-room (at 3 7)) $ free1 ! $ free0 ! $ by ! (exits n e)))))))))))))
+          move ! (with-room (at 3 6)) $ free1 ! $ move ! (with-room (at 3 7)) $ free1 ! $
+          move ! (with-room (at 3 8)) $ free1 ! $ free0 ! $ by ! (exits n e))))))))))))))
 
 pub advance-spec : {M : Type 1} → stated.statement M
 unfolding code.routine

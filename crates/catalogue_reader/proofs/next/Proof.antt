@@ -68,16 +68,17 @@ module _ {M : Type 1} (𝓤 : URA M) (H : Heap 𝓤) (A : Atoms 𝓤) where
         move ! (1 ∷ []) $ frame ! $ nothing ! $ move ! (2 ∷ 0 ∷ []) $ fjoin ! $ frame ! $ done !
 
     module _ (C : Calls 𝓤 H) (Λ : Loops 𝓤 H) (fm : FmC 𝓤 H (W .laws) C) (known : Triple 𝓤 (C row-at.name) RowAt) where
-      -- Local i of six, behind `front` things.
+      -- Local i of seven, behind `front` things.
       abbrev at : ℕ → ℕ → ℕ
-      at front i = local 6 front i
+      at front i = local 7 front i
 
       walk : Holds (hasTy (T′.mir (named 0)) (T′.lowered d)) × WT (T′.lowered d) → ent 𝓤 Entry (WpFn 𝓤 H C Λ code.function (T′.lowered d ∷ []) Exit)
       walk wt =
           qed W (raw Entry ∷ []) ∵ enter ! C Λ code.function (T′.lowered d ∷ []) _ $
-          alloc1 ! (λ l₀. alloc1 ! (λ l₁. alloc1 ! (λ l₂. alloc1 ! (λ l₃. alloc1 ! (λ l₄. alloc1 ! (λ l₅. alloc0 ! $ params1 ! $
+          alloc1 ! (λ l₀. alloc1 ! (λ l₁. alloc1 ! (λ l₂. alloc1 ! (λ l₃. alloc1 ! (λ l₄. alloc1 ! (λ l₅. alloc1 ! (λ l₆.
+          alloc0 ! $ params1 ! $
           pass1 ! (init ! (at 0 1) refl wt) $ pass0 ! $
-          -- the four fields behind the number go into _2 .. _5
+          -- the five fields behind the number go into _2 .. _6
           assigns ! (of-opd ! (load ! (from ! (fld ! refl (stop !))) (look-in ! (at 0 1) (sub ! 1 refl (whole !)))))
           (from ! (stop !)) (init ! (at 0 2) refl (tt, wt .1 .1 .0)) $
           assigns ! (of-opd ! (load ! (from ! (fld ! refl (stop !))) (look-in ! (at 0 1) (sub ! 2 refl (whole !)))))
@@ -86,24 +87,27 @@ module _ {M : Type 1} (𝓤 : URA M) (H : Heap 𝓤) (A : Atoms 𝓤) where
           (from ! (stop !)) (init ! (at 0 4) refl (tt, wt .1 .1 .1 .1 .0)) $
           assigns ! (of-opd ! (load ! (from ! (fld ! refl (stop !))) (look-in ! (at 0 1) (sub ! 4 refl (whole !)))))
           (from ! (stop !)) (init ! (at 0 5) refl (tt, wt .1 .1 .1 .1 .1 .0)) $
+          assigns ! (of-opd ! (load ! (from ! (fld ! refl (stop !))) (look-in ! (at 0 1) (sub ! 5 refl (whole !)))))
+          (from ! (stop !)) (init ! (at 0 6) refl (tt, wt .1 .1 .1 .1 .1 .1 .0)) $
           -- what the reader owns stands behind all locals
           move ! ((2 + at 0 0) ∷ []) $
           use1 W (raw (RowAt .pre (to-fields S.the-row nextRow 𝓤 H A W κ q d)) ⊛ ‵ Kept) (passed-on S.the-row nextRow 𝓤 H A W κ q d) $ split ! $
           calls-at ! fm RowAt known (to-fields S.the-row nextRow 𝓤 H A W κ q d)
           (and-then ! (load ! (from ! (stop !)) (look ! (at 2 2) refl)) (and-then ! (load ! (from ! (stop !)) (look ! (at 2 3) refl))
-          (and-then ! (load ! (from ! (stop !)) (look ! (at 2 4) refl)) (and-then ! (load ! (from ! (stop !)) (look ! (at 2 5) refl)) (no-more !))))) (λ u.
+          (and-then ! (load ! (from ! (stop !)) (look ! (at 2 4) refl)) (and-then ! (load ! (from ! (stop !)) (look ! (at 2 5) refl))
+          (and-then ! (load ! (from ! (stop !)) (look ! (at 2 6) refl)) (no-more !)))))) (λ u.
           use1 W (later (some (λ (r : NextRow). ((‵ (flft κ q) ⊛ ‵ ftrue) ⊛ ‵ (S.the-row .own r (u ∷ [])))
           ⊛ raw (ensured 𝓤 H A (of-fields S.the-row) (gives S.the-row nextRow 𝓤) (κ, tt) (fields d) tt r)))) (id⊢ 𝓤 _) $ await ! tt $ pick ! (λ r.
           split ! $ move ! (1 ∷ []) $ use1 W (raw (fact 𝓤 (r ≡ row))) (answered S.the-row nextRow 𝓤 H A W κ q d r) $
           heard ! (r ≡ row) (λ e. split ! $ move ! (1 ∷ []) $
-          -- [the result; the token; what the reader owns; _5; …; _1; …; room for _0; …]
+          -- [the result; the token; what the reader owns; _6; …; _1; …; room for _0; …]
           peeks ! S.the-row (Is S.the-row) (shows 𝓤 H A S.the-row) r (u ∷ []) (λ is.
           land ! (from ! (stop !)) (init ! (at 3 0) refl (EL.lawful S.the-type S′.the-laws 𝓤 H A W tt .typed r _ is .0)) $
-          returns ! (look ! (at 3 0) refl) $ forget ! (at 3 5) refl $ forget ! (at 3 4) refl $ forget ! (at 3 3) refl $ forget ! (at 3 2) refl $
-          forget ! (at 3 1) refl $ forget ! (at 3 0) refl $
+          returns ! (look ! (at 3 0) refl) $ forget ! (at 3 6) refl $ forget ! (at 3 5) refl $ forget ! (at 3 4) refl $ forget ! (at 3 3) refl $
+          forget ! (at 3 2) refl $ forget ! (at 3 1) refl $ forget ! (at 3 0) refl $
           move ! (with-room (at 3 0)) $ free1 ! $ move ! (with-room (at 3 1)) $ free1 ! $ move ! (with-room (at 3 2)) $ free1 ! $
-          move ! (with-room (at 3 3)) $ free1 ! $ move ! (with-room (at 3 4)) $ free1 ! $ move ! (with-room (at 3 5)) $ free1 ! $ free0 ! $
-          by ! (exits r u e)))))))))))
+          move ! (with-room (at 3 3)) $ free1 ! $ move ! (with-room (at 3 4)) $ free1 ! $ move ! (with-room (at 3 5)) $ free1 ! $
+          move ! (with-room (at 3 6)) $ free1 ! $ free0 ! $ by ! (exits r u e))))))))))))
 
 pub next-spec : {M : Type 1} → stated.statement M
 unfolding code.routine

@@ -1,7 +1,8 @@
--- `catalogue_reader::reader` meets its contract: a walk by hand. `opened` gives the number and the place of the body with T, `cut` the part there, and a
--- reader is made of the part and the numbers. The file's slice is Copy: what it owns goes to both calls and is kept for the exit; what the part owns goes
--- into the reader. Assumes nothing.
+-- `catalogue_reader::reader` meets its contract: a walk by hand. `opened` gives the number and the place of the body with T and the kind, `cut` the part
+-- there, and a reader is made of the part and the numbers. The file's slice is Copy: what it owns goes to both calls and is kept for the exit; what the
+-- part owns goes into the reader. Assumes nothing.
 use mathlib.Core.Path.{_≡_, refl, ap, _∙_, subst}
+use mathlib.Core.Bool.{Bool}
 use mathlib.Core.List.{List, [], _∷_}
 use Prim.Native.Nat.{ℕ, _+_, _<_, _^_}
 use lib.Dec.{lit<, eqb→eq, T as Holds}
@@ -28,8 +29,8 @@ use types.Run.{alloc1, alloc0, params1, pass1, pass0, free1, free0}
 use sound.WpLaws.{FmC}
 use denote.RattleType.{RattleType, owns}
 use denote.Laws.{Is, shows}
-use denote.Plain.{uint-vals, uint-tells, uint-makes}
-use denote.Builtin.{u8, u32, usize}
+use denote.Plain.{uint-vals, uint-tells, uint-makes, bool-makes}
+use denote.Builtin.{u8, u32, usize, bool}
 use denote.Ref.{RefT, now}
 use denote.Signature.{plain}
 use denote.Slice.{sliceTy, sliceVal, ShrSlice, slice-vals, shr-slice-tells, shr-slice-lawful, shr-slice-copy}
@@ -44,7 +45,7 @@ use denote.Triple.Table.{cited}
 use denote.Triple.Walked.{says, Stays, stay-none, stay-none-slice, walkOf, goes-none, goes-none-slice, ends-at, walked}
 use denote.Exit.{yes}
 use denote.Triple.Clauses.{ensured, lasts}
-use Rattle.definitions.specs.Catalogue.{lookupPart, readerRefusal, readerTop}
+use Rattle.definitions.specs.Catalogue.{lookupPart, readerRefusal, readerTop, readerGaps}
 use Rattle.definitions.specs.declared.Reader.{Reader}
 use Rattle.definitions.proofs.Reader.Laws as T′
 use Rattle.catalogue_reader.specs.Opened.{Opened}
@@ -139,25 +140,26 @@ module _ {M : Type 1} (𝓤 : URA M) (H : Heap 𝓤) (A : Atoms 𝓤) (W : Given
         → ent 𝓤 (ensured 𝓤 H A cut.ended (cut.clauses 𝓤 H A mem run) κs cut-args tt r) (fact 𝓤 (now r ≡ take (b .size) (drop (b .offset) (now s))))
     cut-said r = exE 𝓤 _ (λ ws. snd∗ 𝓤 (sem 𝓤 H A (lasts cut.ended κs cut-args ws)) (fact 𝓤 (now r ≡ take (b .size) (drop (b .offset) (now s)))))
 
-  abbrev made : ℕ → RefT (List ℕ) → ℕ → ℕ → Reader
-  made n r t k = record { refusal = n; body = r; degree = m; top = t; place = k }
+  abbrev made : ℕ → RefT (List ℕ) → ℕ → Bool → ℕ → Reader
+  made n r t b k = record { refusal = n; body = r; degree = m; top = t; gaps = b; place = k }
 
   -- The place k is the number that the code writes. That it is 0 is shown below by a test, since `refl` would choose k by itself.
-  exits : (n : ℕ) (r : RefT (List ℕ)) (t k : ℕ) → n < 2 ^ 32 → t < 2 ^ 32 → k < 2 ^ 64
-      → n ≡ readerRefusal (now s) m → now r ≡ lookupPart (now s) m → t ≡ readerTop (now s) m → k ≡ 0
-      → ent 𝓤 (⋆ 𝓤 H A (‵ (Lent .own r (slice r ∷ [])) ∷ (‵ (flft κ q) ⊛ ‵ ftrue) ∷ ‵ Kept ∷ [])) (Post (T′.lowered (made n r t k)))
-  exits n r t k n-fits t-fits small d e f g =
+  exits : (n : ℕ) (r : RefT (List ℕ)) (t : ℕ) (b : Bool) (k : ℕ) → n < 2 ^ 32 → t < 2 ^ 32 → k < 2 ^ 64
+      → n ≡ readerRefusal (now s) m → now r ≡ lookupPart (now s) m → t ≡ readerTop (now s) m → b ≡ readerGaps (now s) m → k ≡ 0
+      → ent 𝓤 (⋆ 𝓤 H A (‵ (Lent .own r (slice r ∷ [])) ∷ (‵ (flft κ q) ⊛ ‵ ftrue) ∷ ‵ Kept ∷ [])) (Post (T′.lowered (made n r t b k)))
+  exits n r t b k n-fits t-fits small d e f g h =
       qed W (‵ (Lent .own r (slice r ∷ [])) ∷ (‵ (flft κ q) ⊛ ‵ ftrue) ∷ ‵ Kept ∷ []) ∵
       suffices ! _ (ends-at 𝓤 H A reader.ended stayed (reader.clauses 𝓤 H A mem run) W ((κs, (q, tt), tt, (s, (m, tt)), passed), tt)
-      (T′.lowered (made n r t k)) (made n r t k) (tt, (tt, tt)) (tt, (tt, tt))) $ says ! (d, e, refl, f, g) $
+      (T′.lowered (made n r t b k)) (made n r t b k) (tt, (tt, tt)) (tt, (tt, tt))) $ says ! (d, e, refl, f, g, h) $
       move ! (1 ∷ []) $ frame ! $
       -- [the part; the file's slice]: the parameters first, then the reader, its fields from the last on
       nothing ! $ owned ! u32 (Is u32) (uint-makes 𝓤 H A W w32) m _ (refl, ok) $ fjoin ! $ move ! (2 ∷ 0 ∷ []) $ fjoin ! $ frame ! $
       nothing ! $ owned ! usize (Is usize) (uint-makes 𝓤 H A W w64) k _ (refl, small) $ fjoin ! $
+      owned ! bool (Is bool) (bool-makes 𝓤 H A W) b _ refl $ fjoin ! $
       owned ! u32 (Is u32) (uint-makes 𝓤 H A W w32) t _ (refl, t-fits) $ fjoin ! $
       owned ! u32 (Is u32) (uint-makes 𝓤 H A W w32) m _ (refl, ok) $ fjoin ! $ move ! (1 ∷ 0 ∷ []) $ fjoin ! $
       owned ! u32 (Is u32) (uint-makes 𝓤 H A W w32) n _ (refl, n-fits) $ fjoin ! $
-      by ! (own-shut 𝓤 H A W (Declares κs) (laws κs) (n, (r, (m, (t, (k, tt))))))
+      by ! (own-shut 𝓤 H A W (Declares κs) (laws κs) (n, (r, (m, (t, (b, (k, tt)))))))
 
   -- A slice and a place at their own machine values.
   slice-is : (r : RefT (List ℕ)) (u : Val) → Is Lent r (u ∷ []) → Is Lent r (slice r ∷ [])
@@ -169,16 +171,16 @@ module _ {M : Type 1} (𝓤 : URA M) (H : Heap 𝓤) (A : Atoms 𝓤) (W : Given
 
   module _ (C : Calls 𝓤 H) (Λ : Loops 𝓤 H) (fm : FmC 𝓤 H (W .laws) C)
       (known-opened : Triple 𝓤 (C #opened) (Place 𝓤 H A mem run)) (known-cut : Triple 𝓤 (C #cut) (Cut 𝓤 H A mem run)) where
-    -- Local i of nine, behind `front` things.
+    -- Local i of ten, behind `front` things.
     abbrev at : ℕ → ℕ → ℕ
-    at front i = local 9 front i
+    at front i = local 10 front i
 
     walk : Is Lent s (slice s ∷ [])
         → ent 𝓤 (onEntry 𝓤 H A reader.signature κs (q, tt) (s, (m, tt)) passed) (WpFn 𝓤 H C Λ code.function (slice s ∷ vint w32 m ∷ []) Post)
     walk p =
         qed W (raw (onEntry 𝓤 H A reader.signature κs (q, tt) (s, (m, tt)) passed) ∷ []) ∵ enter ! C Λ code.function (slice s ∷ vint w32 m ∷ []) _ $
         alloc1 ! (λ l₀. alloc1 ! (λ l₁. alloc1 ! (λ l₂. alloc1 ! (λ l₃. alloc1 ! (λ l₄. alloc1 ! (λ l₅. alloc1 ! (λ l₆. alloc1 ! (λ l₇. alloc1 ! (λ l₈.
-        alloc0 ! $ params1 ! $
+        alloc1 ! (λ l₉. alloc0 ! $ params1 ! $
         pass1 ! (init ! (at 0 1) refl (shr-slice-lawful 𝓤 H A W (named 0) κ u8 .typed s (slice s ∷ []) p .0)) $
         pass1 ! (init ! (at 0 2) refl (tt, record { fits = ok })) $ pass0 ! $
         -- what the parameters own stands behind all locals
@@ -189,16 +191,17 @@ module _ {M : Type 1} (𝓤 : URA M) (H : Heap 𝓤) (A : Atoms 𝓤) (W : Given
         ⊛ raw (ensured 𝓤 H A opened.ended (opened.clauses 𝓤 H A mem run) κs (s, (m, tt)) tt b)))) (id⊢ 𝓤 _) $ await ! tt $ pick ! (λ b.
         split ! $ move ! (1 ∷ []) $ use1 W (raw (fact 𝓤 (Opened (now s) m b))) (opened-said b) $
         heard ! (Opened (now s) m b) (λ place. split ! $ move ! (1 ∷ []) $
-        -- [what the place owns; the token; the file's slice; room for _8; …; room for _3; …; _2; …; _1; …; room for _0; …]
+        -- [what the place owns; the token; the file's slice; room for _9; …; room for _3; …; _2; …; _1; …; room for _0; …]
         peeks ! B.the-row (Is B.the-row) (shows 𝓤 H A B.the-row) b (u ∷ []) (λ is.
         let wt = place-typed b u is in
         let refusal-typed = wt .1 .0 in
         let offset-fits = wt .1 .1 .0 .fits in
         let size-fits = wt .1 .1 .1 .0 .fits in
         let top-typed = wt .1 .1 .1 .1 .0 in
+        let gaps-typed = wt .1 .1 .1 .1 .1 .0 in
         land ! (from ! (stop !)) (init ! (at 3 3) refl (LL.lawful B.the-type B′.the-laws 𝓤 H A W .typed b _ is .0)) $
         rewrite ! (at 3 3) (λ (x : Val). ‵ (fat fullShare B′.mir l₃ 0 x)) (ap only (LL.tells B.the-type B′.the-laws b (u ∷ []) is)) refl $ let-go ! $
-        -- [the token; the file's slice; room for _8; …]: the four fields go into _4 .. _7
+        -- [the token; the file's slice; room for _9; …]: the five fields go into _4 .. _8
         assigns ! (of-opd ! (load ! (from ! (fld ! refl (stop !))) (look-in ! (at 2 3) (sub ! 0 refl (whole !)))))
         (from ! (stop !)) (init ! (at 2 4) refl (tt, refusal-typed)) $
         assigns ! (of-opd ! (load ! (from ! (fld ! refl (stop !))) (look-in ! (at 2 3) (sub ! 1 refl (whole !)))))
@@ -207,6 +210,8 @@ module _ {M : Type 1} (𝓤 : URA M) (H : Heap 𝓤) (A : Atoms 𝓤) (W : Given
         (from ! (stop !)) (init ! (at 2 6) refl (tt, wt .1 .1 .1 .0)) $
         assigns ! (of-opd ! (load ! (from ! (fld ! refl (stop !))) (look-in ! (at 2 3) (sub ! 3 refl (whole !)))))
         (from ! (stop !)) (init ! (at 2 7) refl (tt, top-typed)) $
+        assigns ! (of-opd ! (load ! (from ! (fld ! refl (stop !))) (look-in ! (at 2 3) (sub ! 4 refl (whole !)))))
+        (from ! (stop !)) (init ! (at 2 8) refl (tt, gaps-typed)) $
         use2 W (raw (Cut 𝓤 H A mem run .pre (to-cut b offset-fits size-fits place)) ⊛ ‵ Kept) (goes-cut b offset-fits size-fits place) $ split ! $
         calls-at ! fm (Cut 𝓤 H A mem run) known-cut (to-cut b offset-fits size-fits place)
         (and-then ! (load ! (from ! (stop !)) (look ! (at 2 1) refl)) (and-then ! (load ! (from ! (stop !)) (look ! (at 2 5) refl))
@@ -216,32 +221,33 @@ module _ {M : Type 1} (𝓤 : URA M) (H : Heap 𝓤) (A : Atoms 𝓤) (W : Given
         split ! $ move ! (1 ∷ []) $
         use1 W (raw (fact 𝓤 (now r ≡ take (b .size) (drop (b .offset) (now s))))) (cut-said b offset-fits size-fits place r) $
         heard ! (now r ≡ take (b .size) (drop (b .offset) (now s))) (λ e. split ! $ move ! (1 ∷ []) $
-        -- [the part; the token; the file's slice; room for _8; …; _7; …; _1; …; room for _0; …]
+        -- [the part; the token; the file's slice; room for _9; …; _8; …; _1; …; room for _0; …]
         peeks ! Lent (Is Lent) (shows 𝓤 H A Lent) r (u′ ∷ []) (λ is′.
         let told = ap only (shr-slice-tells (named 0) κ u8 r (u′ ∷ []) is′) in
-        land ! (from ! (stop !)) (init ! (at 3 8) refl (shr-slice-lawful 𝓤 H A W erased κ u8 .typed r (u′ ∷ []) is′ .0)) $
-        rewrite ! (at 3 8) (λ (x : Val). ‵ (fat fullShare (sliceTy (tyRef erased imm (tyInt w8))) l₈ 0 x)) told refl $
+        land ! (from ! (stop !)) (init ! (at 3 9) refl (shr-slice-lawful 𝓤 H A W erased κ u8 .typed r (u′ ∷ []) is′ .0)) $
+        rewrite ! (at 3 9) (λ (x : Val). ‵ (fat fullShare (sliceTy (tyRef erased imm (tyInt w8))) l₉ 0 x)) told refl $
         rewrite ! 0 (λ (x : Val). ‵ (Lent .own r (x ∷ []))) told refl $
-        assigns ! (agg ! (and-then ! (load ! (from ! (stop !)) (look ! (at 3 4) refl)) (and-then ! (load ! (from ! (stop !)) (look ! (at 3 8) refl))
+        assigns ! (agg ! (and-then ! (load ! (from ! (stop !)) (look ! (at 3 4) refl)) (and-then ! (load ! (from ! (stop !)) (look ! (at 3 9) refl))
         (and-then ! (load ! (from ! (stop !)) (look ! (at 3 2) refl)) (and-then ! (load ! (from ! (stop !)) (look ! (at 3 7) refl))
-        (and-then ! (lit ! tt) (no-more !))))))) (from ! (stop !))
+        (and-then ! (load ! (from ! (stop !)) (look ! (at 3 8) refl)) (and-then ! (lit ! tt) (no-more !)))))))) (from ! (stop !))
         (init ! (at 3 0) refl (
           tt,
           (
             refusal-typed,
             (
               shr-slice-lawful 𝓤 H A W (named 0) κ u8 .typed r (slice r ∷ []) (slice-is r u′ is′) .0 .1,
-              (record { fits = ok }, (top-typed, (record { fits = lit< tt }, tt))),
+              (record { fits = ok }, (top-typed, (gaps-typed, (record { fits = lit< tt }, tt)))),
             ),
           ),
         )) $
-        returns ! (look ! (at 3 0) refl) $ forget ! (at 3 8) refl $ forget ! (at 3 7) refl $ forget ! (at 3 6) refl $ forget ! (at 3 5) refl $
-        forget ! (at 3 4) refl $ forget ! (at 3 3) refl $ forget ! (at 3 2) refl $ forget ! (at 3 1) refl $ forget ! (at 3 0) refl $
+        returns ! (look ! (at 3 0) refl) $ forget ! (at 3 9) refl $ forget ! (at 3 8) refl $ forget ! (at 3 7) refl $ forget ! (at 3 6) refl $
+        forget ! (at 3 5) refl $ forget ! (at 3 4) refl $ forget ! (at 3 3) refl $ forget ! (at 3 2) refl $ forget ! (at 3 1) refl $ forget ! (at 3 0) refl $
         move ! (with-room (at 3 0)) $ free1 ! $ move ! (with-room (at 3 1)) $ free1 ! $ move ! (with-room (at 3 2)) $ free1 ! $
         move ! (with-room (at 3 3)) $ free1 ! $ move ! (with-room (at 3 4)) $ free1 ! $ move ! (with-room (at 3 5)) $ free1 ! $
-        move ! (with-room (at 3 6)) $ free1 ! $ move ! (with-room (at 3 7)) $ free1 ! $ move ! (with-room (at 3 8)) $ free1 ! $ free0 ! $
-        by ! (exits (b .refusal) r (b .top) _ (refusal-typed .fits) (top-typed .fits) (lit< tt)
-        (place .refusal-is) (e ∙ place .part-is) (place .top-is) (eqb→eq _ 0 tt)))))))))))))))))))
+        move ! (with-room (at 3 6)) $ free1 ! $ move ! (with-room (at 3 7)) $ free1 ! $ move ! (with-room (at 3 8)) $ free1 ! $
+        move ! (with-room (at 3 9)) $ free1 ! $ free0 ! $
+        by ! (exits (b .refusal) r (b .top) (b .gaps) _ (refusal-typed .fits) (top-typed .fits) (lit< tt)
+        (place .refusal-is) (e ∙ place .part-is) (place .top-is) (place .gaps-is) (eqb→eq _ 0 tt))))))))))))))))))))
 
 pub reader-spec : {M : Type 1} → stated.statement M
 unfolding code.routine

@@ -4,10 +4,10 @@ use Rattle.catalogue_results.proofs.body.Statement.{statement}
 use Rattle.catalogue_results.proofs.body.Tie as tie
 
 returns : tie.Need-returns
-returns c = rw (c .before .answer .given .1)
+returns c = rw (c .before .before .answer .given .1, c .truth .ensures)
 
 returns-2 : tie.Need-returns-2
 returns-2 c = rw (c .before .before .answer2 .given .1, c .refusal-number .ensures)
 
 pub body-spec : {M : Type 1} → statement M
-body-spec = tie.close (tie.spec (λ c. search needs) (λ c. search needs) (λ c κs. search needs) returns returns-2)
+body-spec = tie.close (tie.spec (λ c. search needs) (λ c κs. search needs) (λ c. search needs) (λ c κs. search needs) returns returns-2)

@@ -12,11 +12,11 @@ abbrev start : tie.Else1 → tie.Start
 start c = c .before .before .before
 
 -- The place is the start of a whole row.
-at-row : (c : tie.Else1) → AtRow (start c .args .degree) (start c .args .top) (start c .args .body .now) (start c .args .place)
-at-row c = at-row-out _ _ _ _ (sym (c .before .at-row .ensures) ∙ not-false _ (c .if1 .left))
+at-row : (c : tie.Else1) → AtRow (start c .args .degree) (start c .args .top) (start c .args .gaps) (start c .args .body .now) (start c .args .place)
+at-row c = at-row-out _ _ _ _ _ (sym (c .before .at-row .ensures) ∙ not-false _ (c .if1 .left))
 
 returns : tie.Need-returns
-returns c = sym (next-place-end _ _ _ _ (sym (c .before .at-row .ensures) ∙ not-true _ (c .if1 .taken)))
+returns c = sym (next-place-end _ _ _ _ _ (sym (c .before .at-row .ensures) ∙ not-true _ (c .if1 .taken)))
 
 row-size-requires : tie.Need-row-size-requires
 row-size-requires c κs =
@@ -29,7 +29,7 @@ add-result c = omega (arith, c .row-size .ensures, at-row (c .before) .whole)
 returns-2 : tie.Need-returns-2
 returns-2 c =
     let row = sym (c .before .before .at-row .ensures) ∙ not-false _ (c .before .if1 .left) in
-    ap (λ (n : ℕ). start (c .before) .args .place + n) (c .row-size .ensures) ∙ sym (next-place-row _ _ _ _ row)
+    ap (λ (n : ℕ). start (c .before) .args .place + n) (c .row-size .ensures) ∙ sym (next-place-row _ _ _ _ _ row)
 
 pub place-behind-spec : {M : Type 1} → statement M
 place-behind-spec = tie.close (tie.spec (λ c κs. search needs) returns row-size-requires add-result returns-2)

@@ -5,15 +5,21 @@ use mathlib.Core.Bool.{true}
 use native.Mathlib.Omega.{arith}
 use borrow.Author.Needs.{needs}
 use borrow.Author.Tests.{not-true, not-false}
+use Rattle.definitions.specs.Calls.{testing, quotientTest}
 use Rattle.definitions.specs.Generator.{lawfulDegree, wellFormed}
+use Rattle.definitions.specs.declared.QuotientTest.the-variants.{Untested}
 use Rattle.number_laws.specs.Bounds.{lawfulDegree-is}
 use Rattle.fraction_laws.specs.WellFormed.{wellFormed-is}
-use Rattle.quotient_test.specs.Testing.{wrong-degree, ill-formed, tested}
+use Rattle.answer_laws.specs.PairCalls.{wrong-degree, ill-formed}
+use Rattle.quotient_test.specs.Testing.{tested}
 use Rattle.quotient_test.proofs.test_quotients.Statement.{statement}
 use Rattle.quotient_test.proofs.test_quotients.Tie as tie
 
 returns : tie.Need-returns
-returns c = sym (wrong-degree _ _ _ (sym (c .before .is-lawful-degree .ensures) ∙ not-true _ (c .if1 .taken)))
+unfolding quotientTest testing
+returns c =
+    let a = c .before .before .args in
+    sym (wrong-degree Untested _ (a .degree) (a .p) (a .q) (sym (c .before .is-lawful-degree .ensures) ∙ not-true _ (c .if1 .taken)))
 
 -- ---- of a lawful degree
 lawful : (c : tie.Else1) → lawfulDegree (c .before .before .args .degree) ≡ true
@@ -23,7 +29,8 @@ is-well-formed-requires : tie.Need-is-well-formed-requires
 is-well-formed-requires c κs = lawfulDegree-is _ .0 (lawful c)
 
 returns-2 : tie.Need-returns-2
-returns-2 c = sym (ill-formed _ _ _ (lawful (c .before .before)) (sym (c .before .is-well-formed .ensures) ∙ not-true _ (c .if2 .taken)))
+unfolding quotientTest testing
+returns-2 c = sym (ill-formed Untested _ _ _ _ (lawful (c .before .before)) (sym (c .before .is-well-formed .ensures) ∙ not-true _ (c .if2 .taken)))
 
 -- ---- of a well-formed pair
 well-formed : (c : tie.Else2) → let a = c .before .before .before .before .args in wellFormed (a .degree) (a .p) (a .q) ≡ true

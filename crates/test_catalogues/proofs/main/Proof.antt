@@ -9,7 +9,7 @@ abbrev Inv-loop : tie.InvT-loop
 Inv-loop counter₀ counter = Unit {0}
 
 abbrev μ-loop : tie.MeasureT-loop
-μ-loop counter₀ counter = 103 - counter
+μ-loop counter₀ counter = 163 - counter
 
 pub main-spec : {M : Type 1} → statement M
 main-spec =

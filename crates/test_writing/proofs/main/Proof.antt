@@ -6,10 +6,10 @@ use Rattle.test_writing.proofs.main.Statement.{statement}
 use Rattle.test_writing.proofs.main.Tie as tie
 
 abbrev Inv-loop : tie.InvT-loop
-Inv-loop t1 t2 t3 t4 t5 t6 counter₀ counter = counter ≤ 149
+Inv-loop t1 t2 t3 t4 t5 t6 counter₀ counter = counter ≤ 325
 
 abbrev μ-loop : tie.MeasureT-loop
-μ-loop t1 t2 t3 t4 t5 t6 counter₀ counter = 149 - counter
+μ-loop t1 t2 t3 t4 t5 t6 counter₀ counter = 325 - counter
 
 pub main-spec : {M : Type 1} → statement M
 main-spec =

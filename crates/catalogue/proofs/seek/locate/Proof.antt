@@ -103,7 +103,7 @@ returns-4 : tie.Need-returns-4
 returns-4 c =
     let entry = c .before .before .before in
     let e = entry .entry-at .result in
-    ap₂ (λ (size stride : ℕ). At (record { offset = e .offset; size = size; stride = stride; top = e .top; rows = e .rows }))
+    ap₂ (λ (size stride : ℕ). At (record { offset = e .offset; size = size; stride = stride; top = e .top; gaps = e .gaps; rows = e .rows }))
     (c .before .body-size .ensures) (c .row-size .ensures)
     ∙ ap (λ (x : Entry). At (placeOf x)) (read-is entry)
     ∙ sym (locating-given _ _ (finds (entry .before)))

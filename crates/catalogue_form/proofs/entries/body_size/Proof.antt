@@ -10,7 +10,7 @@ use Rattle.catalogue_form.proofs.entries.body_size.Tie as tie
 mul-result : tie.Need-mul-result
 mul-result c =
     let e = c .before .before .args .e in
-    let fits = body-size-fits (e .degree) (e .top) (c .before .before .pre .high) (e .rows) (search needs) in
+    let fits = body-size-fits (e .degree) (e .top) (e .gaps) (c .before .before .pre .high) (e .rows) (search needs) in
     record { fits = omega (arith, ap (λ (n : ℕ). e .rows * n) (c .row-size .ensures)) }
 
 returns : tie.Need-returns

@@ -5,7 +5,6 @@ use native.Mathlib.Omega.{arith}
 use lib.ListN.{length}
 use borrow.Author.Tests.{not-true, not-false}
 use borrow.Author.Needs.{needs}
-use Rattle.catalogue_laws.specs.Sizes.{row-size-is}
 use Rattle.catalogue_laws.specs.Form.{numbersForm, numbers-form-is, values-form-is, row-stop, row-values}
 use Rattle.catalogue_form.proofs.rows.row_form.Statement.{statement}
 use Rattle.catalogue_form.proofs.rows.row_form.Tie as tie
@@ -15,9 +14,7 @@ start c = c .before .before
 
 -- The three numbers lie within the file.
 whole : (c : tie.After-number-size) → start c .args .at + 3 * c .number-size .result ≤ length (start c .args .s .now)
-whole c =
-    let a = start c .args in
-    omega (arith, row-size-is (a .degree) (a .top), c .number-size .ensures .0, start c .pre .3)
+whole c = omega (arith, c .number-size .ensures .0, start c .pre .3)
 
 -- What their test gave.
 numbers-test : (c : tie.After-numbers-below)
@@ -45,8 +42,7 @@ add-bytes-below c = omega (arith, whole (c .before .before))
 bytes-below-requires : tie.Need-bytes-below-requires
 bytes-below-requires c κs =
     let sized = c .before .before .before in
-    let a = start sized .args in
-    omega (arith, row-size-is (a .degree) (a .top), sized .number-size .ensures .0, c .value-count .ensures, start sized .pre .3)
+    omega (arith, sized .number-size .ensures .0, c .value-count .ensures, start sized .pre .3)
 
 returns-2 : tie.Need-returns-2
 returns-2 c =

@@ -9,24 +9,24 @@ use borrow.Author.Tests.{not-true, not-false}
 use borrow.Author.Needs.{needs}
 use Rattle.definitions.specs.Catalogue.{rowSize, rowForm}
 use Rattle.number_laws.specs.Every.{every-none, every-on, every-stop}
-use Rattle.catalogue_laws.specs.Sizes.{BackTurn, back-turn}
+use Rattle.catalogue_laws.specs.Sizes.{BackTurn, back-turn, row-size-is}
 use Rattle.catalogue_laws.specs.Form.{rowsForm}
 use Rattle.catalogue_form.proofs.rows.rows_form.Statement.{statement}
 use Rattle.catalogue_form.proofs.rows.rows_form.Tie as tie
 
 abbrev FirstDecide : tie.InvT-loop
-FirstDecide s rows degree limit top at size left₀ place₀ left place =
-    (left ≤ rows) × (size ≡ rowSize degree top) × (place ≡ at + left * rowSize degree top)
-    × (rowsForm degree top s at rows ≡ rowsForm degree top s at left)
+FirstDecide s rows degree limit top gaps at size left₀ place₀ left place =
+    (left ≤ rows) × (size ≡ rowSize degree top gaps) × (place ≡ at + left * rowSize degree top gaps)
+    × (rowsForm degree top gaps s at rows ≡ rowsForm degree top gaps s at left)
 
 abbrev remaining : tie.MeasureT-loop
-remaining s rows degree limit top at size left₀ place₀ left place = left
+remaining s rows degree limit top gaps at size left₀ place₀ left place = left
 
 abbrev start : tie.At-loop FirstDecide remaining → tie.Start FirstDecide remaining
 start turn = turn .before .before .before
 
 abbrev row-size : tie.At-loop FirstDecide remaining → ℕ
-row-size turn = rowSize (start turn .args .degree) (start turn .args .top)
+row-size turn = rowSize (start turn .args .degree) (start turn .args .top) (start turn .args .gaps)
 
 -- The test of the row at k.
 abbrev passes : tie.At-loop FirstDecide remaining → ℕ → Bool
@@ -37,7 +37,7 @@ passes turn k =
 -- The body's size, as it is computed.
 sized : (c : tie.After-row-size FirstDecide remaining)
     → c .before .before .args .rows * c .row-size .result
-    ≡ c .before .before .args .rows * rowSize (c .before .before .args .degree) (c .before .before .args .top)
+    ≡ c .before .before .args .rows * rowSize (c .before .before .args .degree) (c .before .before .args .top) (c .before .before .args .gaps)
 sized c = ap (λ (n : ℕ). c .before .before .args .rows * n) (c .row-size .ensures)
 
 -- Where the row of this turn lies.
@@ -63,8 +63,9 @@ sub-place c = omega (arith, turned c .room, c .before .loop .inv .1)
 
 row-form-requires : tie.Need-row-form-requires FirstDecide remaining
 row-form-requires c κs =
-    let pre = start (c .before) .pre in
-    (pre .0, pre .1, pre .2, omega (arith, turned c .within, c .before .loop .inv .1))
+    let at = start (c .before) in
+    let size = row-size-is (at .args .degree) (at .args .top) (at .args .gaps) in
+    (at .pre .0, at .pre .1, at .pre .2, omega (arith, turned c .within, c .before .loop .inv .1))
 
 -- What the test of this turn gave.
 tested : (c : tie.After-row-form FirstDecide remaining) → c .row-form .result ≡ passes (c .before .before) (c .before .before .loop .left - 1)

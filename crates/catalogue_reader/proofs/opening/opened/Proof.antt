@@ -8,13 +8,13 @@ use Rattle.catalogue_reader.proofs.opening.opened.Tie as tie
 returns : tie.Need-returns
 returns c =
     let called = c .before .before .before in
-    opened-found _ _ _ (sym (called .locate .ensures) ∙ c .before .found .given .1) _ refl refl refl refl
+    opened-found _ _ _ (sym (called .locate .ensures) ∙ c .before .found .given .1) _ refl refl refl refl refl
 
 returns-2 : tie.Need-returns-2
 returns-2 c =
     let told = c .before .before in
     let called = told .before .before in
-    opened-refused _ _ _ (sym (called .locate .ensures) ∙ told .refusal .given .1) _ (c .refusal-number .ensures) refl refl refl
+    opened-refused _ _ _ (sym (called .locate .ensures) ∙ told .refusal .given .1) _ (c .refusal-number .ensures) refl refl refl refl
 
 pub opened-spec : {M : Type 1} → statement M
 opened-spec =

@@ -39,16 +39,16 @@ top-lawful c = sym (c .before .is-lawful-top .ensures) ∙ not-false _ (c .if2 .
 -- The remainder that is tested is that by a row's size.
 remainder-is : (c : tie.After-row-size)
     → start₂ (c .before) .args .place % c .row-size .result
-    ≡ start₂ (c .before) .args .place % rowSize (start₂ (c .before) .args .degree) (start₂ (c .before) .args .top)
+    ≡ start₂ (c .before) .args .place % rowSize (start₂ (c .before) .args .degree) (start₂ (c .before) .args .top) (start₂ (c .before) .args .gaps)
 remainder-is c = ap (λ (n : ℕ). start₂ (c .before) .args .place % n) (c .row-size .ensures)
 
 returns : tie.Need-returns
-returns c = sym (at-row-degree _ _ _ _ (sym (c .before .is-lawful-degree .ensures) ∙ not-true _ (c .if1 .taken)))
+returns c = sym (at-row-degree _ _ _ _ _ (sym (c .before .is-lawful-degree .ensures) ∙ not-true _ (c .if1 .taken)))
 
 returns-2 : tie.Need-returns-2
 returns-2 c =
     let fails = sym (c .before .is-lawful-top .ensures) ∙ not-true _ (c .if2 .taken) in
-    sym (at-row-top _ _ _ _ (degree-lawful (c .before .before)) fails)
+    sym (at-row-top _ _ _ _ _ (degree-lawful (c .before .before)) fails)
 
 row-size-requires : tie.Need-row-size-requires
 row-size-requires c κs = lawfulTop-is _ .0 (top-lawful c)
@@ -56,22 +56,23 @@ row-size-requires c κs = lawfulTop-is _ .0 (top-lawful c)
 rem-if3 : tie.Need-rem-if3
 rem-if3 c =
     let a = start₂ (c .before) .args in
-    omega (arith, c .row-size .ensures, row-size-least (a .degree) (a .top))
+    omega (arith, c .row-size .ensures, row-size-least (a .degree) (a .top) (a .gaps))
 
 returns-3 : tie.Need-returns-3
 returns-3 c =
     let two = c .before .before in
-    sym (at-row-start _ _ _ _ (degree-lawful (first two)) (top-lawful two) (λ e. c .if3 .taken (remainder-is (c .before) ∙ e)))
+    sym (at-row-start _ _ _ _ _ (degree-lawful (first two)) (top-lawful two) (λ e. c .if3 .taken (remainder-is (c .before) ∙ e)))
 
 -- Behind the third test the place is the start of a row, if it is within the body.
-abbrev place-starts : (c : tie.Else3) → start₂ (second c) .args .place % rowSize (start₂ (second c) .args .degree) (start₂ (second c) .args .top) ≡ 0
+abbrev place-starts : (c : tie.Else3)
+    → start₂ (second c) .args .place % rowSize (start₂ (second c) .args .degree) (start₂ (second c) .args .top) (start₂ (second c) .args .gaps) ≡ 0
 place-starts c = sym (remainder-is (c .before)) ∙ c .if3 .left
 
 returns-4 : tie.Need-returns-4
 returns-4 c =
     let three = c .before in
     let two = second three in
-    sym (at-row-behind _ _ _ _ (degree-lawful (first two)) (top-lawful two) (place-starts three) (search needs))
+    sym (at-row-behind _ _ _ _ _ (degree-lawful (first two)) (top-lawful two) (place-starts three) (search needs))
 
 returns-5 : tie.Need-returns-5
 returns-5 c =
@@ -79,7 +80,8 @@ returns-5 c =
     let two = second three in
     let a = start₂ two .args in
     ap (λ (n : ℕ). leb n (length (a .body .now) - a .place)) (three .before .row-size .ensures)
-    ∙ sym (at-row-whole (a .degree) (a .top) (a .body .now) (a .place) (degree-lawful (first two)) (top-lawful two) (place-starts three) (search needs))
+    ∙ sym (at-row-whole (a .degree) (a .top) (a .gaps) (a .body .now) (a .place)
+    (degree-lawful (first two)) (top-lawful two) (place-starts three) (search needs))
 
 pub at-row-spec : {M : Type 1} → statement M
 at-row-spec =

@@ -1,12 +1,11 @@
 -- `catalogue_rows::rows::t_at` meets its contract: above T it is 0, and else the byte is one of the row's. Assumes nothing.
 use mathlib.Core.Path.{sym, ap, _∙_}
-use Prim.Native.Nat.{ℕ, suc, _+_, _-_, _*_, _≤_}
+use Prim.Native.Nat.{ℕ, _+_, _-_, _*_, _≤_}
 use native.Mathlib.Omega.{arith}
 use lib.ListN.{length}
 use borrow.Author.Needs.{needs}
 use Rattle.definitions.specs.Ranking.{leastTop}
-use Rattle.definitions.specs.Catalogue.{byteAt}
-use Rattle.catalogue_laws.specs.Sizes.{row-size-is}
+use Rattle.definitions.specs.Catalogue.{byteAt, valuesSize}
 use Rattle.catalogue_laws.specs.Reading.{t-above, t-within}
 use Rattle.catalogue_rows.proofs.rows.t_at.Statement.{statement}
 use Rattle.catalogue_rows.proofs.rows.t_at.Tie as tie
@@ -16,10 +15,8 @@ start c = c .before .before .before
 
 -- The row's last byte lies within the body.
 whole : (c : tie.After-number-size)
-    → start c .args .place + 3 * c .number-size .result + (suc (start c .args .top) - leastTop) ≤ length (start c .args .body .now)
-whole c =
-    let a = start c .args in
-    omega (arith, row-size-is (a .degree) (a .top), c .number-size .ensures .0, start c .pre .2)
+    → start c .args .place + 3 * c .number-size .result + valuesSize (start c .args .top) ≤ length (start c .args .body .now)
+whole c = omega (arith, c .number-size .ensures .0, start c .pre .2)
 
 returns : tie.Need-returns
 returns c =

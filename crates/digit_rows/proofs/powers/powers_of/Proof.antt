@@ -3,24 +3,24 @@ use mathlib.Core.Path.{_≡_, refl, _∙_}
 use Prim.Native.Nat.{_-_, _≤_}
 use native.Mathlib.Omega.{arith}
 use lib.ListN.{length, length-set}
-use Rattle.definitions.specs.Ranking.{largestTop}
+use Rattle.definitions.specs.Generator.{largestDegree}
 use Rattle.digit_rows.specs.Powers.{Residues, FirstPowers}
 use Rattle.digit_rows.proofs.PowerLaws.{powers-start, residues-start, powers-more, residues-more}
 use Rattle.digit_rows.proofs.powers.powers_of.Statement.{statement}
 use Rattle.digit_rows.proofs.powers.powers_of.Tie as tie
 
 abbrev Invariant : tie.InvT-loop
-Invariant q p lead powers₀ j₀ powers j =
-    (1 ≤ j) × (j ≤ largestTop) × (length powers ≡ largestTop) × FirstPowers q p j powers × Residues lead powers
+Invariant q p lead n powers₀ j₀ powers j =
+    (1 ≤ j) × (j ≤ largestDegree) × (length powers ≡ largestDegree) × FirstPowers q p j powers × Residues lead powers
 
 abbrev measure : tie.MeasureT-loop
-measure q p lead powers₀ j₀ powers j = largestTop - j
+measure q p lead n powers₀ j₀ powers j = n - j
 
 loop-holds : tie.Need-loop-holds Invariant measure
-loop-holds c = (omega arith, omega arith, refl, powers-start (c .pre) (c .args .q), residues-start (c .pre) largestTop)
+loop-holds c = (omega arith, omega arith, refl, powers-start (c .pre .0) (c .args .q), residues-start (c .pre .0) largestDegree)
 
 mul-mod-requires : tie.Need-mul-mod-requires Invariant measure
-mul-mod-requires c κs = let l = c .before .loop in (c .before .before .pre, l .inv .4 (l .j - 1))
+mul-mod-requires c κs = let l = c .before .loop in (c .before .before .pre .0, l .inv .4 (l .j - 1))
 
 loop-again : tie.Need-loop-again Invariant measure
 loop-again c =
@@ -28,10 +28,10 @@ loop-again c =
     let at = c .before .before .before in
     let next = c .mul-mod in (
       omega arith,
-      omega arith,
+      omega (arith, at .pre .1),
       length-set (l .powers) (l .j) (next .result) ∙ l .inv .2,
-      powers-more (at .pre) (at .args .q) (l .j) (next .result) (l .powers) (l .inv .0) (omega arith) (next .ensures .0) (l .inv .3),
-      residues-more (at .pre) (l .j) (next .result) (l .powers) (omega arith) (next .ensures .1) (l .inv .4),
+      powers-more (at .pre .0) (at .args .q) (l .j) (next .result) (l .powers) (l .inv .0) (omega (arith, at .pre .1)) (next .ensures .0) (l .inv .3),
+      residues-more (at .pre .0) (l .j) (next .result) (l .powers) (omega (arith, at .pre .1)) (next .ensures .1) (l .inv .4),
     )
 
 returns : tie.Need-returns Invariant measure

@@ -8,6 +8,7 @@ use denote.Ref.{now}
 use lib.ListN.{length}
 use borrow.Author.Needs.{needs}
 use Rattle.definitions.specs.Ranking.{rowWidth, longestRow}
+use Rattle.search.specs.Frame.{width-most}
 use Rattle.listing_rows.specs.Room.{stepRoom}
 use Rattle.listing_rows.specs.Taken.{HandedWithin}
 use Rattle.listing_start.specs.declared.Printing.{Printing}
@@ -91,7 +92,7 @@ put-rows-requires c κs =
     let bytes = fits-bytes (length (now (a .rows)) / rowWidth (a .from .list)) (length (now (a .text))) stepRoom in
     let less-numbers : count h * rowWidth (a .from .list) ≤ fit (h .before) * rowWidth (a .from .list) = mul-le-mul-right (rowWidth (a .from .list)) few in
     let less-bytes : count h * stepRoom ≤ fit (h .before) * stepRoom = mul-le-mul-right stepRoom few in
-    let low : rowWidth (a .from .list) ≤ longestRow = omega (arith, e .pre .0 .on-list .lawful .top .high) in
+    let low : rowWidth (a .from .list) ≤ longestRow = width-most (e .pre .0 .on-list .lawful) in
     let kept : length (rows-now h) ≡ length (now (a .rows)) = h .take-rows .kept .1 .0 in
     let left-over = few-handed (a .from) (a .size) (a .done) (fit (h .before)) (handed h) in (
       rw wide low,

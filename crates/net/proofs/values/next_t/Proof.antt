@@ -30,7 +30,7 @@ degree-p c = c .pre .0 .1
 abbrev stop : (c : Start) → Stop (c .args .degree) (c .args .p) (c .args .q) (c .args .bound)
 stop c = c .pre .1 .0
 
-abbrev powers : (c : Start) → PowersOf (c .args .q) (c .args .p) (2 ^ c .args .degree) (c .args .powers .now)
+abbrev powers : (c : Start) → PowersOf (c .args .q) (c .args .p) (2 ^ c .args .degree) largestTop (c .args .powers .now)
 powers c = c .pre .1 .1 .0
 
 abbrev dimension : (c : Start) → (2 ≤ c .args .s) × (c .args .s ≤ largestTop)

@@ -4,6 +4,7 @@ use mathlib.Core.Bool.{false}
 use mathlib.Core.List.{[]}
 use native.Mathlib.Omega.{arith}
 use borrow.Author.Needs.{needs}
+use Rattle.search.specs.Frame.{width-most}
 use Rattle.page_rows.proofs.SearchLaws as laws
 use Rattle.page_rows.proofs.count.count_rows.Statement.{statement}
 use Rattle.page_rows.proofs.count.count_rows.Tie as tie
@@ -11,7 +12,7 @@ use Rattle.page_rows.proofs.count.count_rows.Tie as tie
 nothing-counted : tie.Need-visit-requires
 nothing-counted c κs =
     let e = c .before .before in
-    let short = e .pre .top .high in
+    let short = width-most (e .pre) in
     laws.ready (e .args .list) false _ _ 1 (e .pre) (omega arith) (omega arith) (omega arith)
 
 -- From the start no last row is read, so none is named.

@@ -1,4 +1,5 @@
 -- `serve::fill` searches from the start, or from the key of the position's pair. Assumes nothing.
+use Rattle.search.specs.Frame.{width-most}
 use Rattle.page_rows.proofs.SearchLaws as laws
 use borrow.Author.Needs.{needs}
 use Rattle.page_rows.proofs.serve.fill.Statement.{statement}
@@ -13,6 +14,13 @@ at-start c = c .before .before .before .before .before
 
 abbrev key-written : tie.After-search-all-arg2 → tie.After-last2
 key-written c = c .before .before .before .before
+
+-- Any row fits the room for the last one.
+start-room : tie.Need-search-all-requires
+start-room c κs = let short = width-most (at-start c .pre .0) in search needs
+
+key-room : tie.Need-search-all-requires-2
+key-room c κs = let short = width-most (at-key (key-written c) .pre .0) in search needs
 
 pair-accepted : tie.Need-write-key-requires
 pair-accepted c κs =
@@ -35,5 +43,5 @@ from-pair c =
 pub fill-spec : {M : Type 1} → statement M
 fill-spec =
     tie.close
-    (tie.spec (λ c. search needs) (λ c. search needs) (λ c κs. search needs) (λ c. search needs) (λ c. search needs) pair-accepted
-    (λ c. search needs) (λ c κs. search needs) (λ c. search needs) from-start (λ c. search needs) from-pair)
+    (tie.spec (λ c. search needs) (λ c. search needs) start-room (λ c. search needs) (λ c. search needs) pair-accepted
+    (λ c. search needs) key-room (λ c. search needs) from-start (λ c. search needs) from-pair)

@@ -8,7 +8,7 @@ use lib.ListN.{take, length-set}
 use Rattle.definitions.specs.Ranking.{rowKey}
 use Rattle.page_laws.specs.Slot.{slot}
 use Rattle.page_laws.specs.Rows.{rowsOf}
-use Rattle.search.specs.Frame.{widthOf, Keeping}
+use Rattle.search.specs.Frame.{width-most, widthOf, Keeping}
 use Rattle.search.specs.Standing.{Begun}
 use Rattle.search.proofs.OfferLaws as laws
 use borrow.Author.Needs.{needs}
@@ -45,9 +45,8 @@ find-slot-requires c κs =
     let w = c .before .before in
     let a = at w .args in
     let k = keeping w in
-    let top = k .lawful .top in
     let fit = laws.kept-fit (a .f) (a .p) (a .q) (a .n) (a .out .now) (a .row .now) k (begun w) in
-    rw (width w) (omega (arith, top .low), omega (arith, begun w .sized, top .high), fit, k .order)
+    rw (width w) (omega (arith, k .lawful .top .low), omega (arith, begun w .sized, width-most (k .lawful)), fit, k .order)
 
 -- ---- the row put in, or left out
 abbrev slotted : tie.After-find-step → tie.After-find-slot
@@ -64,7 +63,7 @@ insert-row-requires c κs =
     let k = keeping w in
     let b = begun w in
     let again = laws.slot-again (a .f) (a .p) (a .q) (a .n) (a .out .now) (a .row .now) k b (c .before .before .find-step .ensures) (slot-is s) in
-    rw (width w) ((simp length-set (omega (arith, b .sized, k .lawful .top .high)), k .few, k .room), again)
+    rw (width w) ((simp length-set (omega (arith, b .sized, width-most (k .lawful))), k .few, k .room), again)
 
 returns : tie.Need-returns
 returns c =

@@ -5,7 +5,7 @@ use borrow.Author.Tests.{not-false, not-true}
 use Rattle.definitions.specs.Pages.{above}
 use Rattle.definitions.specs.Ranking.{rowKey}
 use Rattle.page_laws.specs.Search.{Search}
-use Rattle.search.specs.Frame.{cutFrom, stateOf, Searching}
+use Rattle.search.specs.Frame.{width-most, cutFrom, stateOf, Searching}
 use Rattle.search.specs.Standing.{Begun, rowIn}
 use Rattle.search.proofs.RowLaws.{key-known}
 use Rattle.search.proofs.OfferLaws as laws
@@ -30,7 +30,7 @@ abbrev begun : (c : Asked) → Begun (at c .args .f .list) (at c .args .p) (at c
 begun c = at c .pre .1 .1 .1
 
 is-above-requires : tie.Need-is-above-requires
-is-above-requires c κs = (searching c .framed, omega (arith, begun c .sized, searching c .framed .lawful .top .high))
+is-above-requires c κs = (searching c .framed, omega (arith, begun c .sized, width-most (searching c .framed .lawful)))
 
 -- The row has the key of the whole row.
 above-is : (c : tie.After-is-above)

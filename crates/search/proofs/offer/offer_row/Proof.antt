@@ -1,4 +1,4 @@
--- `offer::offer_row` goes by where the key stands. Assumes nothing.
+-- `offer::offer_row` goes by where the key stands; where that is open, Δ is written before the row is offered. Assumes nothing.
 use mathlib.Core.Path.{refl}
 use mathlib.Core.List.{List}
 use Prim.Native.Nat.{ℕ}
@@ -49,17 +49,29 @@ returns-2 c =
     let a = at (w .before) .args in
     laws.high-offered (a .f) (a .last .now) (state (w .before)) (a .p) (a .q) (written w) (w .weigh .ensures) (high c .enum-told2 .given .1)
 
-offer-known-requires : tie.Need-offer-known-requires
-offer-known-requires c κs =
-    let opened = c .before .before in
-    let w = weighed (opened .before .before) in
+-- ---- where that is open
+abbrev opened : tie.After-numbers3 → tie.After-weigh
+opened c = weighed (c .before .before .before)
+
+write-delta-requires : tie.Need-write-delta-requires
+write-delta-requires c κs =
+    let w = opened c in
     let s = w .before in
     let a = at s .args in
-    let begun = laws.open-begun (a .f) (a .last .now) (state s) (a .p) (a .q) (written w) (w .weigh .ensures) (opened .enum-told3 .given .1) in
-    (searching s, (at s .pre .1 .0, (accepted-is (a .f .list .degree) (a .p) (a .q) .0 (at s .pre .1 .1) .primitive-p, begun)))
+    let valued = laws.open-valued (a .f) (a .last .now) (state s) (a .p) (a .q) (written w) (w .weigh .ensures) (c .before .enum-told3 .given .1) in
+    (searching s .framed .lawful, (at s .pre .1 .0, valued))
+
+offer-known-requires : tie.Need-offer-known-requires
+offer-known-requires c κs =
+    let delta-written = c .before .before .before in
+    let s = opened (delta-written .before) .before in
+    let a = at s .args in
+    let primitive = accepted-is (a .f .list .degree) (a .p) (a .q) .0 (at s .pre .1 .1) .primitive-p in
+    (searching s, (at s .pre .1 .0, (primitive, delta-written .write-delta .ensures)))
 
 pub offer-row-spec : {M : Type 1} → statement M
 offer-row-spec =
     tie.close
     (tie.spec (λ c. search needs) weigh-requires (λ c. search needs) (λ c. search needs) count-fits (λ c. search needs) (λ c. search needs)
-    offer-known-requires (λ c. search needs) returns (λ c. search needs) returns-2 (λ c. search needs) (λ c. search needs))
+    write-delta-requires (λ c. search needs) offer-known-requires (λ c. search needs) returns (λ c. search needs) returns-2 (λ c. search needs)
+    (λ c. search needs))

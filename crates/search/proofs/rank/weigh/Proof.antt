@@ -1,5 +1,5 @@
 -- `rank::weigh` writes the t-values one after the other, and stops where they decide. The invariant: the first s numbers of the row are
--- written, and the last t-value is t(s - 1). The measure is what is left of the row. Assumes nothing.
+-- written, and the last t-value is t(s - 1). The measure is what is left up to t(T). Assumes nothing.
 use mathlib.Core.Path.{_≡_, sym, ap, _∙_}
 use mathlib.Core.Bool.{true}
 use mathlib.Core.List.{List}
@@ -10,11 +10,12 @@ use lib.ListN.{length, take, set, length-set}
 use Rattle.definitions.specs.declared.Selection.{Selection}
 use Rattle.definitions.specs.Generator.{accepted}
 use Rattle.definitions.specs.Net.{tValue}
-use Rattle.definitions.specs.Ranking.{longestRow, ranksFrom, rowWidth}
+use Rattle.definitions.specs.Ranking.{longestRow, ranksFrom}
 use Rattle.fraction_laws.specs.WellFormed.{WellFormed}
 use Rattle.net_laws.specs.TValue.{tValue-first}
 use Rattle.net.specs.Bound.{largestBound, Stop, stop-accepted}
-use Rattle.search.specs.Frame.{LawfulList, widthOf, stateOf, Searching}
+use Rattle.row_order.specs.Ranks.{valuesEnd}
+use Rattle.search.specs.Frame.{LawfulList, stateOf, Searching}
 use Rattle.search.specs.Standing.{begun}
 use Rattle.search.proofs.RowLaws.{take-next, begun-first, begun-length, begun-at}
 use Rattle.search.proofs.RankLaws as laws
@@ -25,20 +26,20 @@ use Rattle.search.proofs.rank.weigh.Tie as tie
 -- The first s numbers of the row are written, and value is t(s - 1).
 pub record Written (l : Selection) (p q : ℕ) (row : List ℕ) (value s : ℕ) : Type 0 where
   pub from : ranksFrom ≤ s
-  pub to : s ≤ rowWidth l
+  pub to : s ≤ valuesEnd l
   pub sized : length row ≡ longestRow
   pub is : take s row ≡ take s (begun l p q)
   pub last : value ≡ tValue (l .degree) p q (s - 1)
 
 abbrev Invariant : tie.InvT-loop
-Invariant p q out t f last row₀ m width powers value₀ s₀ row value s = Written (f .list) p q row value s
+Invariant p q out t f last row₀ m end powers value₀ s₀ row value s = Written (f .list) p q row value s
 
 abbrev measure : tie.MeasureT-loop
-measure p q out t f last row₀ m width powers value₀ s₀ row value s = width - s
+measure p q out t f last row₀ m end powers value₀ s₀ row value s = end - s
 
--- ---- what the call asked, once the width is known
+-- ---- what the call asked, once the place behind t(T) is known
 abbrev Wide : Type 0
-Wide = tie.After-width-of Invariant measure
+Wide = tie.After-values-end Invariant measure
 
 abbrev at : Wide → tie.Start Invariant measure
 at c = c .before .before .before .before .before
@@ -58,8 +59,8 @@ sized c = at c .pre .1 .1 .1
 abbrev lawful : (c : Wide) → LawfulList (at c .args .f .list)
 lawful c = searching c .framed .lawful
 
-width : (c : Wide) → c .width-of .result ≡ widthOf (at c .args .f)
-width c = c .width-of .ensures
+end : (c : Wide) → c .values-end .result ≡ valuesEnd (at c .args .f .list)
+end c = c .values-end .ensures
 
 stop : (c : Wide) → Stop (at c .args .f .list .degree) (at c .args .p) (at c .args .q) largestBound
 stop c = stop-accepted _ _ _ (omega (arith, lawful c .degree .low)) (formed c .degree-p) (formed c .nonzero) (formed c .smaller) (passes c)
@@ -91,8 +92,8 @@ abbrev written : (c : tie.At-loop Invariant measure)
     → let a = at (wide c) .args in Written (a .f .list) (a .p) (a .q) (c .loop .row) (c .loop .value) (c .loop .s)
 written c = c .loop .inv
 
-inside : (c : tie.In-loop Invariant measure) → c .before .loop .s < widthOf (at (wide (c .before)) .args .f)
-inside c = omega (arith, c .loop-test .taken, width (wide (c .before)))
+inside : (c : tie.In-loop Invariant measure) → c .before .loop .s < valuesEnd (at (wide (c .before)) .args .f .list)
+inside c = omega (arith, c .loop-test .taken, end (wide (c .before)))
 
 next-t-requires-2 : tie.Need-next-t-requires-2 Invariant measure
 next-t-requires-2 c κs =
@@ -156,7 +157,8 @@ returns c =
     let m = more turn in
     let w = wide (loop turn) in
     let a = at w .args in
-    laws.low-known (searching w) (a .p) (a .q) (row turn) (loop turn .loop .s + 1) (m .from) (m .to) (m .is) (c .before .is-low .ensures) (c .if1 .taken)
+    laws.low-known (searching w) (a .p) (a .q) (row turn) (loop turn .loop .s + 1) (m .from) (omega (arith, m .to)) (m .is)
+    (c .before .is-low .ensures) (c .if1 .taken)
 
 -- ---- the key is behind every row kept, and there is no room left
 abbrev high-turn : tie.After-is-high-arg Invariant measure → Turn
@@ -167,7 +169,7 @@ is-high-requires c κs =
     let turn = high-turn c in
     let m = more turn in
     let s = searching (wide (loop turn)) in
-    (m .from, omega (arith, m .to, m .sized, s .framed .lawful .top .high), m .to, s .framed .some, s .good .room)
+    (m .from, omega (arith, m .to, m .sized, s .framed .lawful .top .high), omega (arith, m .to), s .framed .some, s .good .room)
 
 returns-2 : tie.Need-returns-2 Invariant measure
 returns-2 c =
@@ -175,7 +177,8 @@ returns-2 c =
     let m = more turn in
     let w = wide (loop turn) in
     let a = at w .args in
-    laws.high-known (searching w) (a .p) (a .q) (row turn) (loop turn .loop .s + 1) (m .from) (m .to) (m .is) (c .before .is-high .ensures) (c .if2 .taken)
+    laws.high-known (searching w) (a .p) (a .q) (row turn) (loop turn .loop .s + 1) (m .from) (omega (arith, m .to)) (m .is)
+    (c .before .is-high .ensures) (c .if2 .taken)
 
 -- ---- neither is known
 loop-again : tie.Need-loop-again Invariant measure
@@ -187,8 +190,8 @@ returns-3 c =
     let w = wide l in
     let a = at w .args in
     let known = written l in
-    laws.open-known (searching w) (a .p) (a .q) (l .loop .row) (l .loop .s) (known .from) (known .to) (known .is) (known .sized)
-    (omega (arith, c .loop-test .left, width w))
+    laws.open-known (searching w) (a .p) (a .q) (l .loop .row) (l .loop .s) (known .from) (omega (arith, known .to)) (known .is) (known .sized)
+    (omega (arith, known .to, c .loop-test .left, end w))
 
 pub weigh-spec : {M : Type 1} → statement M
 weigh-spec =

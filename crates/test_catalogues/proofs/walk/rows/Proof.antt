@@ -188,7 +188,7 @@ module _ {M : Type 1} (𝓤 : URA M) (H : Heap 𝓤) (A : Atoms 𝓤) (W : Given
   goes-advance r = qed W (‵ (Own r) ∷ Token ∷ []) ∵ nothing ! $ move ! (1 ∷ 0 ∷ []) $ fjoin ! $ move ! (1 ∷ 0 ∷ []) $ join ! $ frame ! $ done !
 
   abbrev here : Reader → NextRow
-  here r = nextRow (r .degree) (r .top) (now (r .body)) (r .place)
+  here r = nextRow (r .degree) (r .top) (r .gaps) (now (r .body)) (r .place)
 
   next-said : (r : Reader) (t : NextRow) → ent 𝓤 (ensured 𝓤 H A next.ended (next.clauses 𝓤 H A mem run) κs (r, tt) tt t) (fact 𝓤 (t ≡ here r))
   next-said r t = exE 𝓤 _ (λ ws. snd∗ 𝓤 (sem 𝓤 H A (lasts next.ended κs (r, tt) ws)) (fact 𝓤 (t ≡ here r)))
@@ -197,7 +197,7 @@ module _ {M : Type 1} (𝓤 : URA M) (H : Heap 𝓤) (A : Atoms 𝓤) (W : Given
   abbrev Advanced : Reader → Reader → Type 0
   Advanced r r′ =
       (r′ .refusal ≡ r .refusal) × (r′ .body ≡ r .body) × (r′ .degree ≡ r .degree) × (r′ .top ≡ r .top)
-      × (r′ .place ≡ nextPlace (r .degree) (r .top) (now (r .body)) (r .place))
+      × (r′ .gaps ≡ r .gaps) × (r′ .place ≡ nextPlace (r .degree) (r .top) (r .gaps) (now (r .body)) (r .place))
 
   advance-said : (r r′ : Reader) → ent 𝓤 (ensured 𝓤 H A advance.ended (advance.clauses 𝓤 H A mem run) κs (r, tt) tt r′) (fact 𝓤 (Advanced r r′))
   advance-said r r′ = exE 𝓤 _ (λ ws. snd∗ 𝓤 (sem 𝓤 H A (lasts advance.ended κs (r, tt) ws)) (fact 𝓤 (Advanced r r′)))
@@ -309,7 +309,7 @@ module _ {M : Type 1} (𝓤 : URA M) (H : Heap 𝓤) (A : Atoms 𝓤) (W : Given
               rewrite ! 0 (λ (x : Val). ‵ (Held κs .own r′ (x ∷ []))) (told r′ u₃ is₃) refl $
               forget ! (at 3 6) refl $ forget ! (at 3 7) refl $ forget ! (at 3 8) refl $ forget ! (at 3 9) refl $
               again ! Nearer At r r′
-              (moved-on r r′ (ap isRow (sym is-here) ∙ sym is-row ∙ passes b more) (moved .1) (moved .4)))))))
+              (moved-on r r′ (ap isRow (sym is-here) ∙ sym is-row ∙ passes b more) (moved .1) (moved .5)))))))
               (λ over. forget ! (at 3 6) refl $ forget ! (at 3 7) refl $ forget ! (at 3 8) refl $ move ! (1 ∷ 0 ∷ []) $ jumps ! $ leave))))))))))
 
     walk : Is Lent s (slice ∷ [])

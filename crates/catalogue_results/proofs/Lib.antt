@@ -1,0 +1,2 @@
+-- What a row is as a struct, number by number.
+mod RowLaws

@@ -1,0 +1,1 @@
+// Laws of points in cubes and of the sum of resolution gaps; no functions.

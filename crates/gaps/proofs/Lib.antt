@@ -1,0 +1,2 @@
+-- Laws of one turn, over plain numbers.
+pub mod TakenLaws
