@@ -1,8 +1,9 @@
 -- Δ, and both kinds of row. Δ in the words of document 02: the sum over s = 1..m of floor(m/s) - l_s, l_s being the largest l with 1 ≤ l ≤ m for which
 -- the 2^(s l) congruent cubes hold equally many points, 0 if none; so are the answers of the call and of the C function. A row with Δ is the row
--- without it and Δ behind it, ranked by Δ before p; both lists have the same pairs; without Δ rows, lists, pages and entries are what they were.
+-- without it and Δ behind it, ranked by Δ before p; both lists have the same pairs, and demand 2 holds of their rows; without Δ rows, lists, pages and
+-- entries are what they were.
 -- An old reader reads what is written without Δ, and says 9 to a file with an entry that has Δ. Assumes nothing.
-use mathlib.Core.Path.{_≡_, refl, sym, ap, ap₂, _∙_}
+use mathlib.Core.Path.{_≡_, refl, sym, ap, ap₂, _∙_, subst}
 use mathlib.Core.Logic.{_↔_}
 use mathlib.Core.Bool.{true, false, not}
 use mathlib.Core.List.{List, [], _∷_, _++_, map, List·Memᴰ, append-nil, append-assoc}
@@ -16,10 +17,10 @@ use Rattle.definitions.specs.Answers.{Situation, situation, unless, gapSumValue
 use Rattle.definitions.specs.Generator.{Pair, lawfulDegree, lawfulFloor, wellFormed, step, acceptedAt}
 use Rattle.definitions.specs.Gaps.{resolution, resolutionGap, sumOfGaps}
 use Rattle.definitions.specs.Pages.{Cut, start, after, sort, page, more}
-use Rattle.definitions.specs.Ranking.{lawfulTop, rowWidth, tValues, ranks, row, rowKey, listedPairs, ranked, cutOf}
+use Rattle.definitions.specs.Ranking.{leastTop, lawfulTop, rowWidth, tValues, ranks, row, rowKey, listedPairs, ranked, cutOf}
 use Rattle.definitions.specs.Calls.{resolving, gapSum, pageRequest, positionSituations, paging, pageRows, furtherRow, pageAnswer, pageSlice}
 use Rattle.definitions.specs.Catalogue.{gapsMark}
-use Rattle.definitions.specs.Writing.{pOf, qOf, entriesOf, rankedList, rankedFile}
+use Rattle.definitions.specs.Writing.{pOf, qOf, stepOf, entriesOf, rankedList, rankedFile}
 use Rattle.definitions.specs.declared.Refusal.{Refusal}
 use Rattle.definitions.specs.declared.Refusal.the-variants.{WrongDegree, WrongDimension, WrongFloor, ShortSlice, IllFormedCatalogue}
 use Rattle.definitions.specs.declared.Selection.{Selection}
@@ -28,13 +29,14 @@ use Rattle.definitions.specs.declared.Position.the-variants.{Start, After}
 use Rattle.definitions.specs.declared.GapSum.the-variants.{Sum, NoSum}
 use Rattle.definitions.specs.declared.PageAnswer.the-variants.{Page, NoPage}
 use Rattle.definitions.specs.declared.Opening.the-variants.{Closed}
-use Rattle.number_laws.specs.Bounds.{LawfulDegree, lawfulDegree-is}
+use Rattle.number_laws.specs.Bounds.{LawfulDegree, lawfulDegree-is, lawfulTop-is}
 use Rattle.answer_laws.specs.Unless.{NoneApplies, passes, at-end, unless-given, told-given}
 use Rattle.fraction_laws.specs.WellFormed.{WellFormed, wellFormed-is}
 use Rattle.gap_laws.specs.Sums.{sum-ext}
 use Rattle.gap_laws.specs.Equal.{IsResolution, resolution-is, resolution-unique}
 use Rattle.gap_laws.specs.Resolution.{gaps-fit-byte}
-use Rattle.ranking_laws.specs.Met.{row-def, row-key}
+use Rattle.net_laws.specs.Smallest.{SmallestNet}
+use Rattle.ranking_laws.specs.Met.{row-def, row-key, row-length, value-behind, delta-behind}
 use Rattle.ranking_laws.specs.Ranked.{ranked-in, ranked-out}
 use Rattle.catalogue_laws.specs.Kinds.{top-plain, gaps-plain}
 use Rattle.catalogue_laws.specs.RoundTrip.{noList}
@@ -47,6 +49,7 @@ use Rattle.results.specs.declared.FenyurkaGaps.{FenyurkaGaps}
 use Rattle.gaps.proofs.sum_of_gaps.Reads as sum-of-gaps
 use Rattle.interface.proofs.fenyurka_sum_of_gaps.Reads as c-sum-of-gaps
 use Rattle.demands.specs.Demand1.{Exact, LowestGiven, numberOf, resolving-exact, resolving-lowest}
+use Rattle.demands.specs.Demand2.{Conditions, accepted-exactly, accepted-judged, t-value-smallest}
 
 -- ---- Δ
 
@@ -94,6 +97,13 @@ module _ (m p q : ℕ) where
           let found = gaps-exactly m p q (resolution m p q) (λ s low high. resolution-is m p q s) in
           unless-given NoSum _ (all-pass (g .lawful) (g .well-formed))
           ∙ ap Sum (found ∙ sym (g .is (resolution m p q) (λ s low high. resolution-is m p q s)))
+
+-- So it is of every well-formed pair of a lawful degree.
+sum-of-pair : (m p q : ℕ) → lawfulDegree m ≡ true → wellFormed m p q ≡ true → SumOfGaps m p q (sumOfGaps m p q)
+unfolding gapSum
+sum-of-pair m p q d w =
+    let passes = all-pass m p q (lawfulDegree-is m .0 d) (wellFormed-is m p q .0 w) in
+    gap-sum-exactly m p q (sumOfGaps m p q) .0 (unless-given NoSum _ passes)
 
 -- ---- of the call, and from C
 
@@ -180,6 +190,32 @@ same-pairs l p q = (
   λ i. let h = listed-pair (withGaps l) p q i in ranked-in (withoutGaps l) (record { p = p; q = q }) (h .0) (h .1),
   λ i. let h = listed-pair (withoutGaps l) p q i in ranked-in (withGaps l) (record { p = p; q = q }) (h .0) (h .1),
 )
+
+-- DEMAND 2 OF THE ROWS, of either kind. What a row of a list says: its pair is accepted at the floor with its step, each t-value is the smallest of the net
+-- definition, and where the list has Δ, the last number is the sum of resolution gaps.
+pub record RowHolds (l : Selection) (r : List ℕ) : Type 0 where
+  pub width : length r ≡ rowWidth l
+  pub accepted : Conditions (l .degree) (l .floor) (pOf r) (qOf r) (stepOf r)
+  pub values : (s : ℕ) → leastTop ≤ s → s ≤ l .top → SmallestNet (l .degree) (pOf r) (qOf r) s (getD r s 0)
+  pub delta : l .gaps ≡ true → SumOfGaps (l .degree) (pOf r) (qOf r) (getD r (suc (l .top)) 0)
+
+pub rows-hold : (l : Selection) → lawfulDegree (l .degree) ≡ true → lawfulTop (l .top) ≡ true → lawfulFloor (l .floor) ≡ true
+    → (r : List ℕ) → List·Memᴰ r (ranked l) → RowHolds l r
+unfolding row
+rows-hold l d t f r i =
+    let a = ranked-out l r i in
+    let m = l .degree in
+    let p = a .pair .p in
+    let q = a .pair .q in
+    let σ = step m p q in
+    let low = lawfulTop-is (l .top) .0 t .low in
+    let judged = accepted-judged m (l .floor) p q d f (a .well-formed) .0 (a .passes) in
+    subst (RowHolds l) (a .is) (record {
+      width = row-length l p q low;
+      accepted = accepted-exactly m (l .floor) p q σ .0 judged;
+      values = λ s least most. subst (SmallestNet m p q s) (sym (value-behind l p q p q σ s least most)) (t-value-smallest m p q s (a .well-formed));
+      delta = λ e. subst (SumOfGaps m p q) (sym (delta-behind l p q p q σ low e)) (sum-of-pair m p q d (a .well-formed));
+    })
 
 -- ---- WITHOUT Δ NOTHING CHANGES
 

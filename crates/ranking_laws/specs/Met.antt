@@ -1,9 +1,9 @@
 -- The rows met on a walk: those of the pairs that the selected list has. The list's rule is that its pairs are those accepted at its floor, and that
 -- the t-values, and Δ where the list has it, follow p, q, σ in a row; each law is the rule's. Assumes nothing.
-use mathlib.Core.Path.{_≡_, refl, sym, ap₂, _∙_}
+use mathlib.Core.Path.{_≡_, refl, sym, ap, ap₂, _∙_}
 use mathlib.Core.Bool.{Bool, true, false}
-use mathlib.Core.List.{List, [], _∷_, _++_}
-use Prim.Native.Nat.{ℕ, suc, _+_, _-_, _≤_, _<_}
+use mathlib.Core.List.{List, [], _∷_, _++_, map}
+use Prim.Native.Nat.{ℕ, zero, suc, _+_, _-_, _≤_, _<_}
 use native.Mathlib.Omega.{arith}
 use lib.ListN.{length, getD, length-append, length-map, List·getD-append}
 use lib.Seq.{getD-append-seam}
@@ -43,16 +43,39 @@ unfolding ranks
 ranks-length l p q = length-append (tValues (l .degree) (l .top) p q) _ ∙ ap₂ _+_ (tValues-length (l .degree) (l .top) p q) (put-length (l .gaps) _)
 
 -- The first of them are the t-values, and Δ stands behind these.
-pub ranks-value : (l : Selection) (p q k : ℕ) → k < suc (l .top) - leastTop → getD (ranks l p q) k 0 ≡ getD (tValues (l .degree) (l .top) p q) k 0
+ranks-value : (l : Selection) (p q k : ℕ) → k < suc (l .top) - leastTop → getD (ranks l p q) k 0 ≡ getD (tValues (l .degree) (l .top) p q) k 0
 unfolding ranks
 ranks-value l p q k h = List·getD-append (tValues (l .degree) (l .top) p q) _ 0 k (omega (arith, tValues-length (l .degree) (l .top) p q))
 
-pub ranks-delta : (l : Selection) (p q : ℕ) → l .gaps ≡ true → getD (ranks l p q) (suc (l .top) - leastTop) 0 ≡ sumOfGaps (l .degree) p q
+ranks-delta : (l : Selection) (p q : ℕ) → l .gaps ≡ true → getD (ranks l p q) (suc (l .top) - leastTop) 0 ≡ sumOfGaps (l .degree) p q
 unfolding ranks
 ranks-delta l p q e =
     let values = tValues (l .degree) (l .top) p q in
     let δ = sumOfGaps (l .degree) p q in
     ap₂ (λ (b : Bool) (n : ℕ). getD (values ++ putIf b δ []) n 0) e (sym (tValues-length (l .degree) (l .top) p q)) ∙ getD-append-seam values δ [] 0
+
+map-numbers : (g : ℕ → ℕ) (a n i : ℕ) → i < n → getD (map g (numbers a n)) i 0 ≡ g (i + a)
+unfolding numbers
+map-numbers g a zero i l = absurd (omega arith)
+map-numbers g a (suc n) zero l = ap g (omega arith)
+map-numbers g a (suc n) (suc i) l = map-numbers g (suc a) n i (omega arith) ∙ ap g (omega arith)
+
+-- In a row t(s) is number s, and Δ the number behind t(T): for any rows that have the ranks behind three numbers.
+module _ (l : Selection) (p q a b c : ℕ) where
+  pub value-behind : (s : ℕ) → leastTop ≤ s → s ≤ l .top → getD (a ∷ b ∷ c ∷ ranks l p q) s 0 ≡ tValue (l .degree) p q s
+  unfolding tValues
+  value-behind zero h k = absurd (omega arith)
+  value-behind (suc zero) h k = absurd (omega arith)
+  value-behind (suc (suc zero)) h k = absurd (omega arith)
+  value-behind (suc (suc (suc i))) h k =
+      ranks-value l p q i (omega arith)
+      ∙ map-numbers (tValue (l .degree) p q) leastTop (suc (l .top) - leastTop) i (omega arith)
+      ∙ ap (tValue (l .degree) p q) (omega arith)
+
+  pub delta-behind : leastTop ≤ l .top → l .gaps ≡ true → getD (a ∷ b ∷ c ∷ ranks l p q) (suc (l .top)) 0 ≡ sumOfGaps (l .degree) p q
+  delta-behind h e =
+      let end : suc (l .top) ≡ suc (suc (suc (suc (l .top) - leastTop))) = omega arith in
+      ap (λ (n : ℕ). getD (a ∷ b ∷ c ∷ ranks l p q) n 0) end ∙ ranks-delta l p q e
 
 -- The rule of a selected list.
 abbrev pub ruleOf : Selection → Rule

@@ -2,19 +2,19 @@
 -- the key has no σ in it. So it is for a pair's row, whose numbers behind σ are its t-values, and Δ where the list has it. Assumes nothing.
 use mathlib.Core.Path.{_≡_, refl, sym, ap, _∙_}
 use mathlib.Core.Bool.{true, false}
-use mathlib.Core.List.{List, [], _∷_, map}
+use mathlib.Core.List.{List, [], _∷_}
 use Prim.Native.Nat.{ℕ, zero, suc, _+_, _-_, _<_, _≤_}
 use native.Mathlib.Numerals.{add-one}
 use native.Mathlib.Omega.{arith}
 use lib.ListN.{length, take, getD, set, length-set}
 use lib.Seq.{take-all, take-suc, take-suc-set, take-set-lt}
 use Rattle.definitions.specs.declared.Selection.{Selection}
-use Rattle.definitions.specs.Number.{bit, numbers}
+use Rattle.definitions.specs.Number.{bit}
 use Rattle.definitions.specs.Generator.{step}
 use Rattle.definitions.specs.Net.{tValue}
 use Rattle.definitions.specs.Gaps.{sumOfGaps}
-use Rattle.definitions.specs.Ranking.{leastTop, longestRow, ranksFrom, rowWidth, rowKey, tValues, ranks, row}
-use Rattle.ranking_laws.specs.Met.{row-def, row-length, ranks-value, ranks-delta}
+use Rattle.definitions.specs.Ranking.{leastTop, longestRow, ranksFrom, rowWidth, rowKey, ranks, row}
+use Rattle.ranking_laws.specs.Met.{row-def, row-length, value-behind, delta-behind}
 use Rattle.row_order.specs.Ranks.{valuesEnd, ranksOf}
 use Rattle.search.specs.Frame.{LawfulList, width-most}
 use Rattle.search.specs.Standing.{begun, Valued, Begun}
@@ -38,12 +38,6 @@ pub take-next : (w b : List ℕ) (s v : ℕ) → s < length w → s < length b �
     → take (s + 1) (set w s v) ≡ take (s + 1) b
 take-next w b s v fits inside same e = rw (add-one s, take-suc-set w s v fits, take-suc b s 0 inside, same, e)
 
-map-numbers : (g : ℕ → ℕ) (a n i : ℕ) → i < n → getD (map g (numbers a n)) i 0 ≡ g (i + a)
-unfolding numbers
-map-numbers g a zero i l = absurd (omega arith)
-map-numbers g a (suc n) zero l = ap g (omega arith)
-map-numbers g a (suc n) (suc i) l = map-numbers g (suc a) n i (omega arith) ∙ ap g (omega arith)
-
 -- ---- a pair's row
 
 module _ (l : Selection) (p q : ℕ) where
@@ -65,21 +59,13 @@ module _ (l : Selection) (p q : ℕ) where
   begun-length h = sym (ap length (row-def l p q)) ∙ row-length l p q h
 
   pub begun-at : (s : ℕ) → ranksFrom ≤ s → s < valuesEnd l → getD (begun l p q) s 0 ≡ tValue (l .degree) p q s
-  unfolding begun tValues
-  begun-at zero h b = absurd (omega arith)
-  begun-at (suc zero) h b = absurd (omega arith)
-  begun-at (suc (suc zero)) h b = absurd (omega arith)
-  begun-at (suc (suc (suc k))) h b =
-      ranks-value l p q k (omega arith)
-      ∙ map-numbers (tValue (l .degree) p q) leastTop (suc (l .top) - leastTop) k (omega arith)
-      ∙ ap (tValue (l .degree) p q) (omega arith)
+  unfolding begun
+  begun-at s h b = value-behind l p q p q 0 s h (omega arith)
 
   -- Behind t(T) stands Δ, where the list has it.
   begun-delta : leastTop ≤ l .top → l .gaps ≡ true → getD (begun l p q) (valuesEnd l) 0 ≡ sumOfGaps (l .degree) p q
   unfolding begun
-  begun-delta h e =
-      let end : valuesEnd l ≡ suc (suc (suc (suc (l .top) - leastTop))) = omega arith in
-      ap (λ (n : ℕ). getD (p ∷ q ∷ 0 ∷ ranks l p q) n 0) end ∙ ranks-delta l p q e
+  begun-delta h e = delta-behind l p q p q 0 h e
 
   pub begun-first : (w : List ℕ) → length w ≡ longestRow → take ranksFrom (set (set (set w 0 p) 1 q) 2 0) ≡ take ranksFrom (begun l p q)
   unfolding begun
