@@ -6,6 +6,7 @@ pub mod Members
 pub mod Ascending
 pub mod Behind
 pub mod Insertion
+pub mod Alike
 pub mod Slot
 pub mod Rows
 pub mod Search

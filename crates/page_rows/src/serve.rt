@@ -11,6 +11,7 @@ use definitions::Position;
 use definitions::Selection;
 use limits::LONGEST_ROW;
 use row_order::width::width_of;
+use row_steps::write_steps;
 use search::frame::Frame;
 use search::frame::Tally;
 use search::rank;
@@ -22,12 +23,13 @@ pub struct Served {
     pub further: bool,
 }
 
-// Walks down the tree from its root. The slice must hold a row; it is the only room that the search needs.
+// Walks down the tree from its root, and then writes the steps of the rows kept. The slice must hold a row; it is the only room that the search needs.
 fn search_all(list: Selection, after: bool, last: &[u32], out: &mut [u32]) -> Served
     requires { ⌜ LawfulList list × (rowWidth list ≤ length (now last)) × (rowWidth list ≤ length (now out)) ⌝ }
     ensures { λ r. ⌜ Filled list (cutIf after (rowKey (take (rowWidth list) (now (last .entry))))) (now (out .entry)) r (now (out .exit)) ⌝ }
 {
-    let capacity = out.len() / width_of(list);
+    let width = width_of(list);
+    let capacity = out.len() / width;
     let frame = Frame {
         list: list,
         capacity: capacity,
@@ -35,6 +37,7 @@ fn search_all(list: Selection, after: bool, last: &[u32], out: &mut [u32]) -> Se
     };
     let none = Tally { kept: 0, count: 0 };
     let found = walk::visit(list.degree, 1, 0, out, none, frame, last);
+    write_steps(list.degree, width, found.kept, out);
     Served {
         rows: found.kept,
         further: capacity < found.count,

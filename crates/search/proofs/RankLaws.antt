@@ -3,7 +3,7 @@
 -- and is above the cut as that row is. Assumes nothing.
 use mathlib.Core.Path.{_≡_, sym, ap, ap₂, _∙_}
 use mathlib.Core.Bool.{Bool, true, false, _&&_, and-eq-true-iff}
-use mathlib.Core.List.{List, [], _∷_, _++_, append-assoc}
+use mathlib.Core.List.{List, [], _++_, append-assoc}
 use Prim.Native.Nat.{ℕ, suc, _+_, _-_, _*_, _≤_, _<_}
 use native.Mathlib.Nat.{suc-mul, one-mul}
 use native.Mathlib.Omega.{arith}
@@ -21,14 +21,14 @@ use Rattle.page_laws.specs.Ascending.{above-start, above-after, above-trans}
 use Rattle.page_laws.specs.Rows.{rowsOf, row-at, length-rows, slot-rows-up}
 use Rattle.page_laws.specs.Slot.{slot}
 use Rattle.page_laws.specs.Search.{Search, Good, start-good}
-use Rattle.ranking_laws.specs.Met.{row-length}
+use Rattle.ranking_laws.specs.Steps.{begun}
 use Rattle.row_order.specs.Ranks.{valuesEnd, ranksOf}
 use Rattle.search.specs.Frame.{LawfulList, width-most, widthOf, cutIf, cutFrom, Searching}
-use Rattle.search.specs.Standing.{begun, Valued, rowIn, Weighed}
+use Rattle.search.specs.Standing.{Valued, rowIn, Weighed}
 use Rattle.search.specs.declared.frame.Frame.{Frame}
 use Rattle.search.specs.declared.rank.Standing.{Standing}
 use Rattle.search.specs.declared.rank.Standing.the-variants.{Low, High, Open}
-use Rattle.search.proofs.RowLaws.{ranks-begun}
+use Rattle.search.proofs.RowLaws.{begun-length}
 
 -- ---- both tests of a comparison
 
@@ -119,12 +119,12 @@ module _ {w cap : ℕ} {at : Cut} {x : Search} (g : Good rowKey w cap at x) (ful
 module _ {f : Frame} {last : List ℕ} {x : Search} (r : Searching f last 1 x) (p q : ℕ) (w : List ℕ) (s : ℕ) (from : ranksFrom ≤ s) (to : s ≤ widthOf f)
     (written : take s w ≡ take s (begun (f .list) p q)) where
   long : length (rowIn f p q) ≡ widthOf f
-  long = row-length (f .list) p q (r .framed .lawful .top .low)
+  long = begun-length (f .list) p q (r .framed .lawful .top .low)
 
   -- The ranks written so far are the first of the whole row.
   ranks-whole : ranksOf s w ≡ ranksOf s (rowIn f p q)
   unfolding ranksOf
-  ranks-whole = ap (drop ranksFrom) written ∙ ranks-begun (f .list) p q s from
+  ranks-whole = ap (drop ranksFrom) written
 
   pub low-known : {low : Bool} → low ≡ (f .after && before (ranksOf s w) (ranksOf s last)) → low ≡ true → Weighed f last x p q w Low
   unfolding Weighed

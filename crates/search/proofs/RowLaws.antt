@@ -1,37 +1,22 @@
--- A row that begins p, q, σ, and the same row while σ is not known and 0 stands in its place: both have one key and rank by the same numbers, as
--- the key has no σ in it. So it is for a pair's row, whose numbers behind σ are its t-values, and Δ where the list has it. Assumes nothing.
+-- A pair's row while its step is not known: how it is written number by number, its t-values, and Δ where the list has it. Assumes nothing.
 use mathlib.Core.Path.{_≡_, refl, sym, ap, _∙_}
 use mathlib.Core.Bool.{true, false}
 use mathlib.Core.List.{List, [], _∷_}
-use Prim.Native.Nat.{ℕ, zero, suc, _+_, _-_, _<_, _≤_}
+use Prim.Native.Nat.{ℕ, _+_, _<_, _≤_}
 use native.Mathlib.Numerals.{add-one}
 use native.Mathlib.Omega.{arith}
 use lib.ListN.{length, take, getD, set, length-set}
-use lib.Seq.{take-all, take-suc, take-suc-set, take-set-lt}
+use lib.Seq.{take-all, take-suc, take-suc-set}
 use Rattle.definitions.specs.declared.Selection.{Selection}
 use Rattle.definitions.specs.Number.{bit}
-use Rattle.definitions.specs.Generator.{step}
 use Rattle.definitions.specs.Net.{tValue}
 use Rattle.definitions.specs.Gaps.{sumOfGaps}
-use Rattle.definitions.specs.Ranking.{leastTop, longestRow, ranksFrom, rowWidth, rowKey, ranks, row}
+use Rattle.definitions.specs.Ranking.{leastTop, longestRow, ranksFrom, rowWidth}
 use Rattle.ranking_laws.specs.Met.{row-def, row-length, value-behind, delta-behind}
-use Rattle.row_order.specs.Ranks.{valuesEnd, ranksOf}
+use Rattle.ranking_laws.specs.Steps.{begun}
+use Rattle.row_order.specs.Ranks.{valuesEnd}
 use Rattle.search.specs.Frame.{LawfulList, width-most}
-use Rattle.search.specs.Standing.{begun, Valued, Begun}
-
--- ---- any row
-
-module _ (p q σ : ℕ) (ranks : List ℕ) where
-  key-without-step : rowKey (p ∷ q ∷ 0 ∷ ranks) ≡ rowKey (p ∷ q ∷ σ ∷ ranks)
-  unfolding rowKey
-  key-without-step = refl
-
-  ranks-without-step : (s : ℕ) → ranksFrom ≤ s → ranksOf s (p ∷ q ∷ 0 ∷ ranks) ≡ ranksOf s (p ∷ q ∷ σ ∷ ranks)
-  unfolding ranksOf
-  ranks-without-step zero h = absurd (omega arith)
-  ranks-without-step (suc zero) h = absurd (omega arith)
-  ranks-without-step (suc (suc zero)) h = absurd (omega arith)
-  ranks-without-step (suc (suc (suc k))) h = refl
+use Rattle.search.specs.Standing.{Valued, Begun}
 
 -- One number more of b written to w.
 pub take-next : (w b : List ℕ) (s v : ℕ) → s < length w → s < length b → take s w ≡ take s b → v ≡ getD b s 0
@@ -41,19 +26,6 @@ take-next w b s v fits inside same e = rw (add-one s, take-suc-set w s v fits, t
 -- ---- a pair's row
 
 module _ (l : Selection) (p q : ℕ) where
-  pub key-begun : rowKey (begun l p q) ≡ rowKey (row l p q)
-  unfolding begun
-  key-begun = key-without-step p q _ _ ∙ sym (ap rowKey (row-def l p q))
-
-  pub ranks-begun : (s : ℕ) → ranksFrom ≤ s → ranksOf s (begun l p q) ≡ ranksOf s (row l p q)
-  unfolding begun
-  ranks-begun s h = ranks-without-step p q _ _ s h ∙ sym (ap (ranksOf s) (row-def l p q))
-
-  -- The step written, the row is whole.
-  begun-whole : set (begun l p q) 2 (step (l .degree) p q) ≡ row l p q
-  unfolding begun
-  begun-whole = sym (row-def l p q)
-
   pub begun-length : leastTop ≤ l .top → length (begun l p q) ≡ rowWidth l
   unfolding begun
   begun-length h = sym (ap length (row-def l p q)) ∙ row-length l p q h
@@ -91,10 +63,3 @@ module _ (l : Selection) (p q : ℕ) where
           sized = length-set w (valuesEnd l) δ ∙ v .sized;
           is = rw end (next ∙ take-all (valuesEnd l + 1) (begun l p q) (omega (arith, long)));
         }
-
-  module _ {w : List ℕ} (b : Begun l p q w) where
-    pub key-known : rowKey (take (rowWidth l) w) ≡ rowKey (row l p q)
-    key-known = ap rowKey (b .is) ∙ key-begun
-
-    pub step-written : leastTop ≤ l .top → {v : ℕ} → v ≡ step (l .degree) p q → take (rowWidth l) (set w 2 v) ≡ row l p q
-    step-written h {v} e = take-set-lt (rowWidth l) w 2 v (omega arith) ∙ rw (b .is, e) begun-whole

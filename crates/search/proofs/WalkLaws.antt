@@ -16,7 +16,7 @@ use Rattle.fraction_laws.specs.Quotients.{two-linear, three-linear}
 use Rattle.fraction_laws.specs.Level.{child-def, child-proper}
 use Rattle.fraction_laws.specs.Tree.{pairsBelow-zero, pairsBelow-suc, pairsBelow-count, tree-sound}
 use Rattle.page_laws.specs.Search.{Search, offer-append, offer-good}
-use Rattle.ranking_laws.specs.Met.{met, met-append, met-length, met-wide}
+use Rattle.ranking_laws.specs.Steps.{metBegun, metBegun-append, metBegun-length, metBegun-wide}
 use Rattle.search.specs.Frame.{widthOf, cutFrom, offers, Searching}
 use Rattle.search.specs.Walk.{Ready}
 use Rattle.search.specs.declared.frame.Frame.{Frame}
@@ -26,13 +26,14 @@ pair p q = record { p = p; q = q }
 
 -- A search goes on in good order, and has counted at most the rows that were offered.
 pub searching-on : {f : Frame} {last : List ℕ} {s t : Search} (l : List Pair) (room : ℕ) → Searching f last (length l + room) s
-    → t ≡ offers f last (met (f .list) l) s → Searching f last room t
+    → t ≡ offers f last (metBegun (f .list) l) s → Searching f last room t
 searching-on {f} {last} {s} {t} l room r e =
-    let o = offer-good rowKey (widthOf f) (f .capacity) (cutFrom f last) (met (f .list) l) s (met-wide (f .list) (r .framed .lawful .top .low) l) (r .good) in
+    let wide = metBegun-wide (f .list) (r .framed .lawful .top .low) l in
+    let o = offer-good rowKey (widthOf f) (f .capacity) (cutFrom f last) (metBegun (f .list) l) s wide (r .good) in
     record {
       framed = r .framed;
       good = rw e (o .0);
-      few = omega (arith, r .few, o .1, ap (λ (x : Search). x .count) e, met-length (f .list) l);
+      few = omega (arith, r .few, o .1, ap (λ (x : Search). x .count) e, metBegun-length (f .list) l);
     }
 
 module _ {left p q : ℕ} {f : Frame} {last : List ℕ} {s : Search} (r : Ready left p q f last s) where
@@ -55,8 +56,8 @@ module _ {left p q : ℕ} {f : Frame} {last : List ℕ} {s : Search} (r : Ready 
     pub leaf-searching : Searching f last 1 s
     leaf-searching = record { framed = r .searching .framed; good = r .searching .good; few = rw z at (r .searching .few) }
 
-    pub leaf-done : {o : Search} → o ≡ offers f last (met (f .list) (pair p q ∷ [])) s
-        → o ≡ offers f last (met (f .list) (pairsBelow left (pair p q))) s
+    pub leaf-done : {o : Search} → o ≡ offers f last (metBegun (f .list) (pair p q ∷ [])) s
+        → o ≡ offers f last (metBegun (f .list) (pairsBelow left (pair p q))) s
     leaf-done e = rw (z, pairsBelow-zero) e
 
   -- ---- at a node
@@ -102,7 +103,7 @@ module _ {left p q : ℕ} {f : Frame} {last : List ℕ} {s : Search} (r : Ready 
     }
 
     pub right-ready : {c d : ℕ} {o : Search} → c ≡ child 2 (pair p q) .p → d ≡ child 3 (pair p q) .p
-        → o ≡ offers f last (met (f .list) (pairsBelow (left - 1) (pair c p))) s → Ready (left - 1) d p f last o
+        → o ≡ offers f last (metBegun (f .list) (pairsBelow (left - 1) (pair c p))) s → Ready (left - 1) d p f last o
     right-ready {c} {d} e g u = record {
       searching = searching-on (pairsBelow (left - 1) (pair c p)) (2 ^ (left - 1)) (record {
         framed = r .searching .framed;
@@ -115,15 +116,15 @@ module _ {left p q : ℕ} {f : Frame} {last : List ℕ} {s : Search} (r : Ready 
     }
 
     pub node-done : {c d : ℕ} {a o : Search} → c ≡ child 2 (pair p q) .p → d ≡ child 3 (pair p q) .p
-        → a ≡ offers f last (met (f .list) (pairsBelow (left - 1) (pair c p))) s
-        → o ≡ offers f last (met (f .list) (pairsBelow (left - 1) (pair d p))) a
-        → o ≡ offers f last (met (f .list) (pairsBelow left (pair p q))) s
+        → a ≡ offers f last (metBegun (f .list) (pairsBelow (left - 1) (pair c p))) s
+        → o ≡ offers f last (metBegun (f .list) (pairsBelow (left - 1) (pair d p))) a
+        → o ≡ offers f last (metBegun (f .list) (pairsBelow left (pair p q))) s
     node-done {c} {d} e g u v =
         let first : List Pair = pairsBelow (left - 1) (pair c p) in
         let second : List Pair = pairsBelow (left - 1) (pair d p) in
         v
-        ∙ ap (offers f last (met (f .list) second)) u
-        ∙ sym (ap (λ (l : List Pair). offers f last (met (f .list) l) s)
+        ∙ ap (offers f last (metBegun (f .list) second)) u
+        ∙ sym (ap (λ (l : List Pair). offers f last (metBegun (f .list) l) s)
         (below ∙ ap₂ (λ (x y : Pair). pairsBelow (left - 1) x ++ pairsBelow (left - 1) y) (made 2 e) (made 3 g))
-        ∙ ap (λ (rows : List (List ℕ)). offers f last rows s) (met-append (f .list) first second)
-        ∙ offer-append rowKey (widthOf f) (f .capacity) (cutFrom f last) (met (f .list) first) (met (f .list) second) s)
+        ∙ ap (λ (rows : List (List ℕ)). offers f last rows s) (metBegun-append (f .list) first second)
+        ∙ offer-append rowKey (widthOf f) (f .capacity) (cutFrom f last) (metBegun (f .list) first) (metBegun (f .list) second) s)

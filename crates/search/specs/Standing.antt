@@ -1,28 +1,25 @@
 -- What is known of a pair's key where its t-values were weighed one after the other. Assumes nothing.
 use mathlib.Core.Path.{_≡_}
 use mathlib.Core.Bool.{true, false}
-use mathlib.Core.List.{List, _∷_}
+use mathlib.Core.List.{List}
 use Prim.Native.Nat.{ℕ, _≤_}
 use lib.ListN.{length, take}
 use Rattle.definitions.specs.declared.Selection.{Selection}
 use Rattle.definitions.specs.Pages.{above}
-use Rattle.definitions.specs.Ranking.{longestRow, rowWidth, ranks, row, rowKey}
+use Rattle.definitions.specs.Ranking.{longestRow, rowWidth, rowKey}
 use Rattle.page_laws.specs.Slot.{slot}
 use Rattle.page_laws.specs.Rows.{rowsOf}
 use Rattle.page_laws.specs.Search.{Search}
+use Rattle.ranking_laws.specs.Steps.{begun}
 use Rattle.row_order.specs.Ranks.{valuesEnd}
 use Rattle.search.specs.Frame.{widthOf, cutFrom}
 use Rattle.search.specs.declared.frame.Frame.{Frame}
 use Rattle.search.specs.declared.rank.Standing.{Standing}
 use Rattle.search.specs.declared.rank.Standing.the-variants.{Low, High, Open}
 
--- A pair's row whose step is not known yet.
-unfoldable pub begun : Selection → ℕ → ℕ → List ℕ
-begun l p q = p ∷ q ∷ 0 ∷ ranks l p q
-
--- The row of a pair in a frame.
+-- The row of a pair in a frame, its step not written yet.
 abbrev pub rowIn : Frame → ℕ → ℕ → List ℕ
-rowIn f p q = row (f .list) p q
+rowIn f p q = begun (f .list) p q
 
 -- The numbers w are those of the pair's row up to t(T), but for the step.
 pub record Valued (l : Selection) (p q : ℕ) (w : List ℕ) : Type 0 where

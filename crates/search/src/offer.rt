@@ -1,18 +1,18 @@
-// What becomes of a pair that the walk meets.
+// What becomes of a pair that the walk meets. Rows are kept without their steps: no key has a step in it, and few of the rows met are kept to the end.
 ghost use mathlib.Core.Path.{_≡_};
 ghost use mathlib.Core.Bool.{true};
 ghost use mathlib.Core.List.{_∷_, []};
 ghost use Prim.Native.Nat.{_≤_};
 ghost use lib.ListN.{length, take};
-ghost use Rattle.definitions.specs.Generator.{linearQuotients, primitive, accepted};
+ghost use Rattle.definitions.specs.Generator.{linearQuotients, accepted};
 ghost use Rattle.definitions.specs.Pages.{above};
 ghost use Rattle.definitions.specs.Ranking.{rowKey};
 ghost use Rattle.fraction_laws.specs.WellFormed.{WellFormed};
 ghost use Rattle.page_laws.specs.Rows.{Kept, inserted};
 ghost use Rattle.page_laws.specs.Search.{Search};
-ghost use Rattle.ranking_laws.specs.Met.{met};
+ghost use Rattle.ranking_laws.specs.Steps.{metBegun};
 ghost use Rattle.search.specs.Frame.{widthOf, cutFrom, stateOf, offers, offer, Framed, Keeping, Searching};
-ghost use Rattle.search.specs.Standing.{rowIn, Begun};
+ghost use Rattle.search.specs.Standing.{rowIn};
 use crate::frame::Frame;
 use crate::frame::Tally;
 use crate::rank;
@@ -22,8 +22,6 @@ use limits::LONGEST_ROW;
 use orders::floors::reaches_floor;
 use orders::primitive::has_full_order;
 use orders::primitive::is_primitive;
-use orders::step::find_step;
-use row_order::compare::STEP;
 use row_order::compare::stands_after;
 use row_order::slot::find_slot;
 use row_order::width::width_of;
@@ -40,48 +38,28 @@ fn is_above(row: &[u32], f: Frame, last: &[u32]) -> bool
     stands_after(row, last, width)
 }
 
-// Puts the row of a pair in its slot, where it fits, and answers how many rows are kept. The step is looked for only then.
-fn keep_row(p: u32, q: u32, out: &mut [u32], n: usize, f: Frame, row: &mut [u32]) -> usize
-    requires { ⌜ Keeping f n (now out) ⌝ }
-    requires { ⌜ WellFormed (f .list .degree) p q ⌝ }
-    requires { ⌜ primitive (f .list .degree) p ≡ true ⌝ }
-    requires { ⌜ Begun (f .list) p q (now row) ⌝ }
+// Puts a row in its slot, where it fits, and answers how many rows are kept.
+fn keep_row(out: &mut [u32], n: usize, f: Frame, row: &[u32]) -> usize
+    requires { ⌜ Keeping f n (now out) × (widthOf f ≤ length (now row)) ⌝ }
     ensures { λ r. ⌜ _≡_ {A = Kept} (record { out = now (out .exit); n = r })
-        (inserted rowKey (widthOf f) (f .capacity) (rowIn f p q) (record { out = now (out .entry); n = n })) ⌝ }
+        (inserted rowKey (widthOf f) (f .capacity) (take (widthOf f) (now (row .entry))) (record { out = now (out .entry); n = n })) ⌝ }
 {
-    let list = f.list;
-    let width = width_of(list);
-    let capacity = f.capacity;
+    let width = width_of(f.list);
     let at = find_slot(out, n, width, row);
-    if at < capacity {
-        row[STEP] = find_step(list.degree, p, q);
-        return insert_row(out, n, width, capacity, at, row);
-    }
-    n
+    insert_row(out, n, width, f.capacity, at, row)
 }
 
 // Offers a row of which all is known but the step.
-fn offer_known(
-    p: u32,
-    q: u32,
-    out: &mut [u32],
-    t: Tally,
-    f: Frame,
-    last: &[u32],
-    row: &mut [u32],
-) -> Tally
-    requires { ⌜ Searching f (now last) 1 (stateOf (now out) t) ⌝ }
-    requires { ⌜ WellFormed (f .list .degree) p q ⌝ }
-    requires { ⌜ primitive (f .list .degree) p ≡ true ⌝ }
-    requires { ⌜ Begun (f .list) p q (now row) ⌝ }
+fn offer_known(out: &mut [u32], t: Tally, f: Frame, last: &[u32], row: &[u32]) -> Tally
+    requires { ⌜ Searching f (now last) 1 (stateOf (now out) t) × (widthOf f ≤ length (now row)) ⌝ }
     ensures { λ r. ⌜ _≡_ {A = Search} (stateOf (now (out .exit)) r)
-        (offer f (now (last .entry)) (rowIn f p q) (stateOf (now (out .entry)) t)) ⌝ }
+        (offer f (now (last .entry)) (take (widthOf f) (now (row .entry))) (stateOf (now (out .entry)) t)) ⌝ }
 {
     if !is_above(row, f, last) {
         return t;
     }
     let n = t.kept;
-    let kept = keep_row(p, q, out, n, f, row);
+    let kept = keep_row(out, n, f, row);
     Tally {
         kept: kept,
         count: t.count + 1,
@@ -106,7 +84,7 @@ fn offer_row(p: u32, q: u32, out: &mut [u32], t: Tally, f: Frame, last: &[u32]) 
         },
         Standing::Open => {
             rank::write_delta(f.list, p, q, &mut numbers);
-            offer_known(p, q, out, t, f, last, &mut numbers)
+            offer_known(out, t, f, last, &numbers)
         }
     }
 }
@@ -117,7 +95,7 @@ pub fn offer_pair(p: u32, q: u32, out: &mut [u32], t: Tally, f: Frame, last: &[u
     requires { ⌜ WellFormed (f .list .degree) p q ⌝ }
     requires { ⌜ linearQuotients p q ≡ true ⌝ }
     ensures { λ r. ⌜ _≡_ {A = Search} (stateOf (now (out .exit)) r)
-        (offers f (now (last .entry)) (met (f .list) (record { p = p; q = q } ∷ [])) (stateOf (now (out .entry)) t)) ⌝ }
+        (offers f (now (last .entry)) (metBegun (f .list) (record { p = p; q = q } ∷ [])) (stateOf (now (out .entry)) t)) ⌝ }
 {
     let list = f.list;
     let m = list.degree;

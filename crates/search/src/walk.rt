@@ -2,7 +2,7 @@
 ghost use mathlib.Core.Path.{_≡_};
 ghost use Rattle.definitions.specs.Generator.{pairsBelow};
 ghost use Rattle.page_laws.specs.Search.{Search};
-ghost use Rattle.ranking_laws.specs.Met.{met};
+ghost use Rattle.ranking_laws.specs.Steps.{metBegun};
 ghost use Rattle.search.specs.Frame.{stateOf, offers};
 ghost use Rattle.search.specs.Walk.{Ready};
 use crate::frame::Frame;
@@ -14,7 +14,7 @@ use fractions::tree;
 pub fn visit(left: u32, p: u32, q: u32, out: &mut [u32], t: Tally, f: Frame, last: &[u32]) -> Tally
     requires { ⌜ Ready left p q f (now last) (stateOf (now out) t) ⌝ }
     ensures { λ r. ⌜ _≡_ {A = Search} (stateOf (now (out .exit)) r)
-        (offers f (now (last .entry)) (met (f .list) (pairsBelow left (record { p = p; q = q }))) (stateOf (now (out .entry)) t)) ⌝ }
+        (offers f (now (last .entry)) (metBegun (f .list) (pairsBelow left (record { p = p; q = q }))) (stateOf (now (out .entry)) t)) ⌝ }
 {
     if left == 0 {
         return offer::offer_pair(p, q, out, t, f, last);

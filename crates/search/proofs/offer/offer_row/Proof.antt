@@ -3,9 +3,8 @@ use mathlib.Core.Path.{refl}
 use mathlib.Core.List.{List}
 use Prim.Native.Nat.{ℕ}
 use native.Mathlib.Omega.{arith}
-use Rattle.order_laws.specs.Accepted.{accepted-is}
 use Rattle.page_laws.specs.Search.{Search}
-use Rattle.search.specs.Frame.{stateOf, Searching}
+use Rattle.search.specs.Frame.{width-most, stateOf, Searching}
 use Rattle.search.proofs.OfferLaws as laws
 use borrow.Author.Needs.{needs}
 use Rattle.search.proofs.offer.offer_row.Statement.{statement}
@@ -61,17 +60,25 @@ write-delta-requires c κs =
     let valued = laws.open-valued (a .f) (a .last .now) (state s) (a .p) (a .q) (written w) (w .weigh .ensures) (c .before .enum-told3 .given .1) in
     (searching s .framed .lawful, (at s .pre .1 .0, valued))
 
+-- The row's numbers are all written but the step.
+abbrev delta-written : tie.After-offer-known-arg → tie.After-write-delta
+delta-written c = c .before .before
+
 offer-known-requires : tie.Need-offer-known-requires
 offer-known-requires c κs =
-    let delta-written = c .before .before .before in
-    let s = opened (delta-written .before) .before in
-    let a = at s .args in
-    let primitive = accepted-is (a .f .list .degree) (a .p) (a .q) .0 (at s .pre .1 .1) .primitive-p in
-    (searching s, (at s .pre .1 .0, (primitive, delta-written .write-delta .ensures)))
+    let d = delta-written (c .before) in
+    let s = opened (d .before) .before in
+    (searching s, omega (arith, d .write-delta .ensures .sized, width-most (searching s .framed .lawful)))
+
+returns-3 : tie.Need-returns-3
+returns-3 c =
+    let offered = c .before .before in
+    let d = delta-written (offered .before .before) in
+    rw (d .write-delta .ensures .is) at (offered .offer-known .ensures)
 
 pub offer-row-spec : {M : Type 1} → statement M
 offer-row-spec =
     tie.close
     (tie.spec (λ c. search needs) weigh-requires (λ c. search needs) (λ c. search needs) count-fits (λ c. search needs) (λ c. search needs)
     write-delta-requires (λ c. search needs) offer-known-requires (λ c. search needs) returns (λ c. search needs) returns-2 (λ c. search needs)
-    (λ c. search needs))
+    returns-3)

@@ -16,7 +16,7 @@ use Rattle.net_laws.specs.TValue.{tValue-first}
 use Rattle.net.specs.Bound.{largestBound, Stop, stop-accepted}
 use Rattle.row_order.specs.Ranks.{valuesEnd}
 use Rattle.search.specs.Frame.{LawfulList, stateOf, Searching}
-use Rattle.search.specs.Standing.{begun}
+use Rattle.ranking_laws.specs.Steps.{begun}
 use Rattle.search.proofs.RowLaws.{take-next, begun-first, begun-length, begun-at}
 use Rattle.search.proofs.RankLaws as laws
 use borrow.Author.Needs.{needs}

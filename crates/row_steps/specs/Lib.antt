@@ -1,0 +1,2 @@
+-- What the contract cites, and its laws.
+pub mod Written
