@@ -12,8 +12,8 @@ use lib.Pow.{pow-pos}
 use borrow.Author.Tests.{eqb-true, eq-eqb}
 use Rattle.definitions.specs.Gaps.{held, evenCubes, resolution}
 use Rattle.number_laws.specs.Truth.{le-unless}
+use Rattle.number_laws.specs.Largest.{largest-to, largest-passes, largest-least}
 use Rattle.net_laws.specs.Net.{Box, none, more, everyBox-in, everyBox-out}
-use Rattle.gap_laws.specs.Largest.{largest-to, largest-passes, largest-least}
 
 -- Any two of the congruent cubes of dimension s with l digits a side hold equally many points.
 abbrev pub EqualCubes : ℕ → ℕ → ℕ → ℕ → ℕ → Type 0

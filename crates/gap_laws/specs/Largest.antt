@@ -1,5 +1,5 @@
--- The largest number from 1 to n that passes a test: none behind it passes, and it passes unless it is 0. Where a number that passes has all smaller
--- ones pass too, it is told by passing while the next one fails; and m/k less it is how many l with k l ≤ m fail, if all that pass are such.
+-- The largest number from 1 to n that passes a test. Where a number that passes has all smaller ones pass too, it is told by passing while the next one
+-- fails; and m/k less it is how many l with k l ≤ m fail, if all that pass are such.
 -- Assumes nothing.
 use mathlib.Core.Path.{_≡_, refl, sym, ap, _∙_}
 use mathlib.Core.Bool.{Bool, true, false, not, _&&_}
@@ -11,42 +11,10 @@ use lib.Dec.{leb, ltb}
 use borrow.Author.Tests.{le-leb, lt-leb, lt-ltb, le-ltb}
 use Rattle.definitions.specs.Number.{bit, largest, sum}
 use Rattle.number_laws.specs.Truth.{not-both, le-unless}
+use Rattle.number_laws.specs.Largest.{largest-to, largest-passes, largest-least, largest-most}
 use Rattle.gap_laws.specs.Sums.{sum-ext, sum-cut, sum-above}
 
 module _ (test : ℕ → Bool) where
-  -- ---- what is found
-  pub largest-to : (n : ℕ) → largest n test ≤ n
-  unfolding largest
-  largest-to zero = omega arith
-  largest-to (suc n) = go (test (suc n)) (largest-to n)
-    where
-      go : (b : Bool) → largest n test ≤ n → elim b [ true ↦ suc n | false ↦ largest n test ] ≤ suc n
-      go true l = omega arith
-      go false l = omega arith
-
-  pub largest-passes : (n : ℕ) → 1 ≤ largest n test → test (largest n test) ≡ true
-  unfolding largest
-  largest-passes zero some = absurd (omega arith)
-  largest-passes (suc n) some = go (test (suc n)) refl (largest-passes n) some
-    where
-      go : (b : Bool) → test (suc n) ≡ b → (1 ≤ largest n test → test (largest n test) ≡ true) → 1 ≤ elim b [ true ↦ suc n | false ↦ largest n test ]
-          → test (elim b [ true ↦ suc n | false ↦ largest n test ]) ≡ true
-      go true e below some = e
-      go false e below some = below some
-
-  pub largest-least : (n w : ℕ) → 1 ≤ w → w ≤ n → test w ≡ true → w ≤ largest n test
-  unfolding largest
-  largest-least zero w low fits t = absurd (omega arith)
-  largest-least (suc n) w low fits t = go (test (suc n)) refl (λ l. largest-least n w low l t)
-    where
-      go : (b : Bool) → test (suc n) ≡ b → (w ≤ n → w ≤ largest n test) → w ≤ elim b [ true ↦ suc n | false ↦ largest n test ]
-      go true e below = fits
-      go false e below = below (le-unless (λ over. let same : w ≡ suc n = omega arith in not-both t (rw same e)))
-
-  pub largest-most : (n w : ℕ) → ((i : ℕ) → test i ≡ true → i ≤ w) → largest n test ≤ w
-  largest-most n w most =
-      le-unless (λ over. let l = most (largest n test) (largest-passes n (omega arith)) in omega arith)
-
   -- ---- a test that smaller numbers pass too, from n down to 1
   abbrev pub Falling : ℕ → Type 0
   Falling n = (i : ℕ) → 1 ≤ i → i < n → test (suc i) ≡ true → test i ≡ true
@@ -63,9 +31,9 @@ module _ (test : ℕ → Bool) where
     pub largest-found : (w : ℕ) → 1 ≤ w → w ≤ n → test w ≡ true → (w < n → test (suc w) ≡ true → ⊥) → w ≡ largest n test
     largest-found w low fits t fails =
         let top = largest n test in
-        let to = largest-to n in
-        le-antisymm (largest-least n w low fits t)
-        (le-unless (λ over. fails (omega arith) (falls-to (suc w) top (omega arith) (omega arith) to (largest-passes n (omega arith)))))
+        let to = largest-to test n in
+        le-antisymm (largest-least test n w low fits t)
+        (le-unless (λ over. fails (omega arith) (falls-to (suc w) top (omega arith) (omega arith) to (largest-passes test n (omega arith)))))
 
     fails-above : (i : ℕ) → 1 ≤ i → i ≤ n → not (test i) ≡ ltb (largest n test) i
     fails-above i low fits = go (test i) refl
@@ -74,8 +42,8 @@ module _ (test : ℕ → Bool) where
         top = largest n test
 
         go : (b : Bool) → test i ≡ b → not b ≡ ltb top i
-        go true t = sym (le-ltb top i (largest-least n i low fits t))
-        go false f = sym (lt-ltb top i (le-unless (λ over. not-both (falls-to i top low (omega arith) (largest-to n) (largest-passes n (omega arith))) f)))
+        go true t = sym (le-ltb top i (largest-least test n i low fits t))
+        go false f = sym (lt-ltb top i (le-unless (λ over. not-both (falls-to i top low (omega arith) (largest-to test n) (largest-passes test n (omega arith))) f)))
 
 -- ---- how many l have k l ≤ m and fail
 module _ (m k : ℕ) (test : ℕ → Bool) (some : 0 < k) (fits : (l : ℕ) → test l ≡ true → k * l ≤ m) where

@@ -11,10 +11,11 @@ use lib.Dec.{leb}
 use Rattle.definitions.specs.Number.{bit, largest, sum}
 use Rattle.definitions.specs.Gaps.{evenCubes, resolution, resolutionGap, sumOfGaps}
 use Rattle.definitions.specs.Honest.{gaps-at-most}
+use Rattle.number_laws.specs.Largest.{largest-least}
 use Rattle.polynomial_laws.specs.Degree.{HasDegree, positive}
 use Rattle.net_laws.specs.Cell.{Free}
 use Rattle.gap_laws.specs.Sums.{sum-ext, sum-exchange, sum-shorter, sum-cut}
-use Rattle.gap_laws.specs.Largest.{largest-least, largest-found, largest-fits, Falling, gap-sum}
+use Rattle.gap_laws.specs.Largest.{largest-found, largest-fits, Falling, gap-sum}
 use Rattle.gap_laws.specs.Cubes.{cubeRows, FreeCubes, free-coordinate-less, free-digit-less, evenCubes-fits, evenCubes-free}
 
 -- ---- definitions

@@ -1,7 +1,8 @@
--- Laws of numbers and lists: greatest common divisors, the first number that passes a test, counting, primes, pigeonhole.
+-- Laws of numbers and lists: greatest common divisors, the first and the largest number that pass a test, counting, primes, pigeonhole.
 pub mod Truth
 pub mod Gcd
 pub mod First
+pub mod Largest
 pub mod Every
 pub mod Count
 pub mod Pigeon

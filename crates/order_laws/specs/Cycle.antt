@@ -1,22 +1,22 @@
 -- The full cycle: where x has the order N, the powers x^0 .. x^(N-1) are distinct and none is 0, since each has a power that completes it to x^N = 1.
 -- For N = 2^m - 1 they are as many as the nonzero residues, so by the pigeonhole principle each of these is one of them, once, and has an inverse.
 -- Assumes nothing.
-use mathlib.Core.Path.{_≡_, sym, _∙_}
+use mathlib.Core.Path.{_≡_, sym, ap, _∙_}
 use mathlib.Core.Logic.{_≢_}
 use mathlib.Core.Bool.{true}
-use Prim.Native.Nat.{ℕ, _+_, _-_, _%_, _^_, _≤_, _<_}
-use native.Mathlib.Nat.{mod-lt}
+use Prim.Native.Nat.{ℕ, suc, _+_, _-_, _*_, _%_, _^_, _≤_, _<_}
+use native.Mathlib.Nat.{mod-lt, mul-suc, le-antisymm}
 use native.Mathlib.Omega.{arith}
 use lib.Pow.{pow-mono}
 use Rattle.definitions.specs.Polynomial.{degree, prod, rem}
 use Rattle.definitions.specs.Generator.{period, primitive}
-use Rattle.number_laws.specs.Truth.{apart-by-order}
+use Rattle.number_laws.specs.Truth.{le-unless}
 use Rattle.number_laws.specs.Pigeon.{Numbering, pigeonhole}
 use Rattle.polynomial_laws.specs.Degree.{HasDegree, degree-unique}
 use Rattle.polynomial_laws.specs.Product.{zero-prod}
 use Rattle.polynomial_laws.specs.Division.{rem-lt, rem-zero}
-use Rattle.polynomial_laws.specs.Power.{rem-power-add}
-use Rattle.order_laws.specs.Powers.{IsOrder, returns-mod}
+use Rattle.polynomial_laws.specs.Power.{rem-one, rem-power-add}
+use Rattle.order_laws.specs.Powers.{IsOrder, rounds, returns-mod}
 use Rattle.order_laws.specs.Primitive.{primitive-order}
 
 module _ (p : ℕ) (big : 2 ≤ p) (N : ℕ) (order : IsOrder p N) where
@@ -30,9 +30,23 @@ module _ (p : ℕ) (big : 2 ≤ p) (N : ℕ) (order : IsOrder p N) where
       let small : e % N < N = mod-lt e (order .positive) in
       omega (arith, rw (returns-mod p big e N (order .holds), none, zero-prod, rem-zero) at (completed (e % N) (omega arith)))
 
+  -- exponents that differ by less than the order: a power of x^i takes x^i to 1, and x^j to x^(j - i)
+  returns-late : (i j : ℕ) → i < j → j < i + N → rem (2 ^ i) p ≡ rem (2 ^ j) p → ⊥
+  returns-late i j later near same =
+      let back : ℕ → ℕ = λ y. rem (prod (rem (2 ^ (i * (N - 1))) p) y) p in
+      omega (arith, order .least (j - i) (omega arith) (sym (taken j (j - i) (omega arith)) ∙ ap back (sym same) ∙ taken i 0 (omega arith) ∙ rem-one p big))
+    where
+      taken : (k d : ℕ) → k ≡ i + d → rem (prod (rem (2 ^ (i * (N - 1))) p) (rem (2 ^ k) p)) p ≡ rem (2 ^ d) p
+      taken k d e =
+          let whole : suc (N - 1) ≡ N = omega (arith, order .positive) in
+          let round : i * (N - 1) + k ≡ i * N + d = omega (arith, ap (λ n. i * n) whole, mul-suc i (N - 1)) in
+          sym (rem-power-add p big (i * (N - 1)) k) ∙ rw round (rounds p big d N (order .holds) i)
+
+  pub powers-near : (i j : ℕ) → i < j + N → j < i + N → rem (2 ^ i) p ≡ rem (2 ^ j) p → i ≡ j
+  powers-near i j h l same = le-antisymm (le-unless (λ k. returns-late j i k h (sym same))) (le-unless (λ k. returns-late i j k l same))
+
   pub powers-apart : (i j : ℕ) → i < N → j < N → rem (2 ^ i) p ≡ rem (2 ^ j) p → i ≡ j
-  powers-apart = apart-by-order N (λ e. rem (2 ^ e) p) (λ i j less below same.
-      omega (arith, order .least (i + (N - j)) (omega arith) (rem-power-add p big i (N - j) ∙ rw same (completed j (omega arith)))))
+  powers-apart i j h l = powers-near i j (omega arith) (omega arith)
 
 -- p of degree m at least 1 is x or more.
 pub degree-big : (m p : ℕ) → 1 ≤ m → HasDegree p m → 2 ≤ p

@@ -20,7 +20,7 @@ IsOrder p n = Smallest (Returns p) n
 
 module _ (p : ℕ) (big : 2 ≤ p) where
   module _ (a b : ℕ) (returns : Returns p b) where
-    rounds : (k : ℕ) → rem (2 ^ (k * b + a)) p ≡ rem (2 ^ a) p
+    pub rounds : (k : ℕ) → rem (2 ^ (k * b + a)) p ≡ rem (2 ^ a) p
     rounds zero = rw (zero-mul, zero-add)
     rounds (suc k) =
         let e : suc k * b + a ≡ b + (k * b + a) = omega arith in

@@ -1,6 +1,6 @@
 -- The leading digits of y/p, one more at a time: the next digit stands at x^m of twice the rest, as long division has it. So the first of more digits
--- are what a shift leaves of them. In y they are additive, and so is the residue of a product in its factor. As many digits as p's degree tell the y
--- apart: they are 0 for y = 0 alone.
+-- are what a shift leaves of them. In y they are additive, and so are the residue of a product in its factor and that of a square. As many digits as
+-- p's degree tell the y apart: they are 0 for y = 0 alone.
 -- Assumes nothing.
 use mathlib.Core.Path.{_≡_, refl, sym, ap, ap₂, _∙_}
 use Prim.Native.Nat.{ℕ, zero, suc, _+_, _-_, _*_, _/_, _^_, _≤_, _<_}
@@ -11,7 +11,7 @@ use Rattle.definitions.specs.Polynomial.{_⊕_, degree, prod, quot, rem}
 use Rattle.definitions.specs.Points.{leading}
 use Rattle.polynomial_laws.specs.Additive.{Additive}
 use Rattle.polynomial_laws.specs.Sum.{zero-⊕, ⊕-self, ⊕-equal}
-use Rattle.polynomial_laws.specs.Product.{zero-prod, prod-⊕, prod-zero}
+use Rattle.polynomial_laws.specs.Product.{zero-prod, prod-⊕, prod-zero, square-⊕}
 use Rattle.polynomial_laws.specs.Division.{rem-lt, division}
 use Rattle.polynomial_laws.specs.Division.{quot-zero, quot-small, quot-double, quot-⊕, rem-zero, rem-small, rem-double, rem-⊕, next-digit}
 use Rattle.polynomial_laws.specs.Power.{power-prod}
@@ -29,7 +29,7 @@ twice y d = ap (λ (k : ℕ). y * k) (pow-succ' 2 d) ∙ omega arith
 pub leading-more : (p d y : ℕ) → leading p (suc d) y ≡ 2 * leading p d y + 2 * rem (y * 2 ^ d) p / 2 ^ degree p
 leading-more p d y = rw (leading-def, leading-def, twice) (quot-double p (y * 2 ^ d))
 
-shift-⊕ : (d a b : ℕ) → (a ⊕ b) * 2 ^ d ≡ a * 2 ^ d ⊕ b * 2 ^ d
+pub shift-⊕ : (d a b : ℕ) → (a ⊕ b) * 2 ^ d ≡ a * 2 ^ d ⊕ b * 2 ^ d
 shift-⊕ d a b =
     mul-comm (a ⊕ b) (2 ^ d)
     ∙ sym (power-prod d (a ⊕ b))
@@ -89,6 +89,9 @@ module _ (p : ℕ) (pos : 0 < p) where
 
   pub residue-additive : (q : ℕ) → Additive (λ y. rem (prod q y) p)
   residue-additive q a b = rw (prod-⊕, rem-⊕ p pos)
+
+  pub square-additive : Additive (λ y. rem (prod y y) p)
+  square-additive a b = rw (square-⊕, rem-⊕ p pos)
 
 pub residue-zero : (p q : ℕ) → rem (prod q 0) p ≡ 0
 residue-zero p q = rw (prod-zero, rem-zero)

@@ -8,7 +8,7 @@ use native.Mathlib.Omega.{arith}
 use lib.Pow.{pow-mono}
 use Rattle.definitions.specs.Polynomial.{_⊕_, degree, prod}
 use Rattle.polynomial_laws.specs.Digits.{Digit, off, on, lowest, half-ind, half-double, double-even, digit-mul-le, byDigits-zero, byDigits-half}
-use Rattle.polynomial_laws.specs.Sum.{half-⊕, zero-⊕, ⊕-zero, ⊕-swap, ⊕-double, halves, lowest-mul}
+use Rattle.polynomial_laws.specs.Sum.{half-⊕, zero-⊕, ⊕-zero, ⊕-swap, ⊕-sums, ⊕-double, halves, lowest-mul}
 use Rattle.polynomial_laws.specs.Degree.{HasDegree, degree-is, double-degree, half-degree, add-degree}
 
 -- ---- the product as it is defined
@@ -73,6 +73,10 @@ prod-comm a b = sym (linear-prod (prod b) (prod-⊕ b) (prod-double b) a ∙ rw 
 
 pub prod-left-comm : (a b c : ℕ) → prod a (prod b c) ≡ prod b (prod a c)
 prod-left-comm a b c = rw (← prod-assoc a, prod-comm a b, prod-assoc)
+
+-- the square of a sum: both mixed products cancel
+pub square-⊕ : (a b : ℕ) → prod (a ⊕ b) (a ⊕ b) ≡ prod a a ⊕ prod b b
+square-⊕ a b = rw (⊕-prod, prod-⊕, prod-⊕, prod-comm b a) (simp ⊕-sums)
 
 -- simp by this set decides an equation of products
 pub ruleset prod-factors = (prod-assoc, prod-comm, prod-left-comm)

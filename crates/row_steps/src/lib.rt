@@ -6,7 +6,7 @@ ghost use Rattle.number_laws.specs.Bounds.{LawfulDegree};
 ghost use Rattle.page_laws.specs.Rows.{rowsOf};
 ghost use Rattle.ranking_laws.specs.Steps.{HaveSteps};
 ghost use Rattle.row_steps.specs.Written.{written};
-use orders::step::find_step;
+use giant_steps::step_of;
 use row_order::compare::STEP;
 
 // Writes the step of each of the first n rows.
@@ -20,7 +20,7 @@ pub fn write_steps(m: u32, width: usize, n: usize, out: &mut [u32])
         let at = i * width;
         let p = out[at];
         let q = out[at + 1];
-        out[at + STEP] = find_step(m, p, q);
+        out[at + STEP] = step_of(m, p, q);
         i += 1;
     }
 }

@@ -1,10 +1,11 @@
 -- Both tables of a pair, of the next state and of the word, filled by doubling, and looked up. Assumes nothing.
-use mathlib.Core.Path.{_≡_, refl, subst}
+use mathlib.Core.Path.{_≡_, refl, subst, _∙_}
 use mathlib.Core.List.{List}
 use Prim.Native.Nat.{ℕ, suc, _+_, _*_, _/_, _%_, _^_, _≤_, _<_}
 use native.Mathlib.Nat.{pow-suc, mul-le-mul-right}
 use native.Mathlib.Omega.{arith}
-use lib.ListN.{length, getD, set}
+use lib.ListN.{length, getD, set, length-set}
+use lib.Seq.{getD-set-same}
 use lib.Bits.{bitXor}
 use lib.Pow.{pow-mono, pow-pos}
 use Rattle.definitions.specs.Polynomial.{prod, rem}
@@ -14,8 +15,9 @@ use Rattle.polynomial_laws.specs.Additive.{Additive}
 use Rattle.polynomial_laws.specs.Degree.{HasDegree, positive, degree-unique}
 use Rattle.polynomial_laws.specs.Division.{rem-lt}
 use Rattle.polynomial_laws.specs.Leading.{residue-additive, leading-additive}
-use Rattle.word_tables.specs.Spreading.{Spread}
-use Rattle.word_tables.specs.Tables.{halfDigits, size, Tabled, tabled-start, tabled-beyond, tabled-double, looked-up}
+use Rattle.linear_maps.specs.Spreading.{Spread}
+use Rattle.linear_maps.specs.Tables.{Tabled, tabled-start, tabled-beyond, tabled-double}
+use Rattle.word_tables.specs.Tables.{halfDigits, size, looked-up}
 
 -- The state after y.
 abbrev pub nextState : ℕ → ℕ → ℕ → ℕ
@@ -39,8 +41,10 @@ unit-small {n} {unit} h u = omega (arith, u .fits, mul-le-mul-right {m = suc n} 
 
 -- The first n entries of both tables.
 pub record Filled (m p q unit n : ℕ) (next word : List ℕ) : Type 0 where
-  pub next-right : Tabled (nextState p q) (2 ^ m) unit n next
-  pub word-right : Tabled (leading p wordDigits) (2 ^ m) unit n word
+  pub next-sized : length next ≡ size
+  pub word-sized : length word ≡ size
+  pub next-right : Tabled (nextState p q) (2 ^ m) unit 0 n next
+  pub word-right : Tabled (leading p wordDigits) (2 ^ m) unit 0 n word
 
 -- ... where n is a power of two.
 pub record Filling (m p q unit n : ℕ) (next word : List ℕ) : Type 0 where
@@ -65,7 +69,13 @@ module _ {m p q unit n : ℕ} {next word : List ℕ} (at : Filling m p q unit n 
 
   pub filling-beyond : 2 ^ m ≤ n * unit → Filled m p q unit size next word
   filling-beyond l =
-      record { next-right = tabled-beyond size l (at .filled .next-right); word-right = tabled-beyond size l (at .filled .word-right) }
+      let f = at .filled in
+      record {
+        next-sized = f .next-sized;
+        word-sized = f .word-sized;
+        next-right = tabled-beyond size l (f .next-right);
+        word-right = tabled-beyond size l (f .word-right);
+      }
 
   pub filling-done : size ≤ n → Filled m p q unit size next word
   filling-done l =
@@ -85,14 +95,16 @@ module _ {m p : ℕ} (d : HasDegree p m) (q : ℕ) where
     is = refl;
     most = omega arith;
     filled = record {
-      next-right = tabled-start (nextState p q) next-additive (2 ^ m) unit next ln;
-      word-right = tabled-start (leading p wordDigits) word-additive (2 ^ m) unit word lw;
+      next-sized = length-set next 0 0 ∙ ln;
+      word-sized = length-set word 0 0 ∙ lw;
+      next-right = tabled-start (nextState p q) next-additive (2 ^ m) unit 0 (getD-set-same next 0 0 0 (omega arith));
+      word-right = tabled-start (leading p wordDigits) word-additive (2 ^ m) unit 0 (getD-set-same word 0 0 0 (omega arith));
     };
   }
 
   module _ {unit n : ℕ} (u : Unit unit) {next word : List ℕ} (at : Filling m p q unit n next word) where
     pub filling-more : n < size → {a b : ℕ} {next′ word′ : List ℕ} → a ≡ nextState p q (n * unit) → b ≡ leading p wordDigits (n * unit)
-        → Spread n a next next′ → Spread n b word word′ → Filling m p q unit (n * 2) next′ word′
+        → Spread 0 n a next next′ → Spread 0 n b word word′ → Filling m p q unit (n * 2) next′ word′
     filling-more l ea eb sa sb =
         let k = at .exponent in
         let f = at .filled in
@@ -101,6 +113,8 @@ module _ {m p : ℕ} (d : HasDegree p m) (q : ℕ) where
           is = omega (arith, at .is, pow-suc 2 k);
           most = filling-less at l;
           filled = record {
+            next-sized = sa .kept ∙ f .next-sized;
+            word-sized = sb .kept ∙ f .word-sized;
             next-right = tabled-double (nextState p q) next-additive (2 ^ m) k (u .exponent) (at .is) (u .is) ea (f .next-right) sa;
             word-right = tabled-double (leading p wordDigits) word-additive (2 ^ m) k (u .exponent) (at .is) (u .is) eb (f .word-right) sb;
           };

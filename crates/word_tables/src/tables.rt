@@ -1,14 +1,13 @@
 // Tables of the two functions of a state that the words come from: the next state and the word. Both are additive, so the value at a state is
 // the sum of two entries, one for each half of its digits.
 ghost use mathlib.Core.Path.{_≡_};
-ghost use Prim.Native.Nat.{_+_, _≤_};
 ghost use lib.ListN.{length};
 ghost use Rattle.number_laws.specs.Bounds.{LawfulDegree};
 ghost use Rattle.fraction_laws.specs.WellFormed.{WellFormed};
-ghost use Rattle.word_tables.specs.Spreading.{Spread};
 ghost use Rattle.word_tables.specs.Tables.{size};
 ghost use Rattle.word_tables.specs.Filling.{Unit, Filled};
 use crate::word;
+use linear_maps::tables::spread;
 use polynomial::digits;
 use polynomial::residues;
 
@@ -21,18 +20,6 @@ pub const SIZE: usize = 1 << HALF_DIGITS;
 pub const LOWER_UNIT: u32 = 1;
 
 pub const UPPER_UNIT: u32 = SIZE as u32;
-
-// The first n entries, each with the value added, behind themselves.
-pub fn spread(table: &mut [u32], n: usize, value: u32)
-    requires { ⌜ n + n ≤ length (now table) ⌝ }
-    ensures { λ r. ⌜ Spread n value (now (table .entry)) (now (table .exit)) ⌝ }
-{
-    let mut i: usize = 0;
-    while i < n {
-        table[n + i] = table[i] ^ value;
-        i += 1;
-    }
-}
 
 // Entry j of each table is the function's value at j times the unit, where that is a residue. The tables double: one value is computed for each.
 pub fn fill(m: u32, p: u32, q: u32, unit: u32, next: &mut [u32], word: &mut [u32])
@@ -51,8 +38,8 @@ pub fn fill(m: u32, p: u32, q: u32, unit: u32, next: &mut [u32], word: &mut [u32
         if y >= lead {
             return;
         }
-        spread(next, n, residues::mul_mod(q, y, p, lead));
-        spread(word, n, word::word_of(m, p, y));
+        spread(next, 0, n, residues::mul_mod(q, y, p, lead));
+        spread(word, 0, n, word::word_of(m, p, y));
         n *= 2;
     }
 }

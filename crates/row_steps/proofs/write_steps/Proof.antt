@@ -37,8 +37,8 @@ fits c = let l = loop c in laws.row-fits (wide l) (room l) (l .loop .inv) (c .lo
 abbrev tested : tie.After-slice-known3 Invariant measure → tie.In-loop Invariant measure
 tested c = c .before .before
 
-find-step-requires : tie.Need-find-step-requires Invariant measure
-find-step-requires c κs =
+step-of-requires : tie.Need-step-of-requires Invariant measure
+step-of-requires c κs =
     let t = tested c in
     let l = loop t in
     (at l .pre .0 .0, laws.pair-has-step (wide l) (room l) (l .loop .inv) (t .loop-test .taken) (at l .pre .1))
@@ -48,7 +48,7 @@ loop-again : tie.Need-loop-again Invariant measure
 loop-again c =
     let t = tested (c .before) in
     let l = loop t in
-    laws.one-more (wide l) (room l) (l .loop .inv) (t .loop-test .taken) (c .find-step .ensures)
+    laws.one-more (wide l) (room l) (l .loop .inv) (t .loop-test .taken) (c .step-of .ensures)
 
 same-length : tie.Need-same-length Invariant measure
 same-length c = let l = c .before in laws.same-length (wide l) (room l) (l .loop .inv)
@@ -69,7 +69,7 @@ write-steps-spec =
     (λ c. omega (arith, fits (c .before)))
     (λ c. omega (arith, fits (c .before)))
     (λ c. omega (arith, fits (tested c)))
-    find-step-requires
+    step-of-requires
     (λ c. omega (arith, fits (tested (c .before))))
     (λ c. omega (arith, fits (tested (c .before))))
     (λ c. omega (arith, fits (tested (c .before))))

@@ -45,12 +45,12 @@ multiple-fits c = omega (arith, unit-small (c .loop-test .taken) (start (c .befo
 next-sized : tie.Need-same-length Inv-loop μ-loop
 next-sized c =
     let at = c .before .before in
-    at .loop .inv .filled .next-right .sized ∙ sym (start at .pre .1 .1 .1 .0)
+    at .loop .inv .filled .next-sized ∙ sym (start at .pre .1 .1 .1 .0)
 
 word-sized : tie.Need-same-length-2 Inv-loop μ-loop
 word-sized c =
     let at = c .before .before in
-    at .loop .inv .filled .word-right .sized ∙ sym (start at .pre .1 .1 .1 .1)
+    at .loop .inv .filled .word-sized ∙ sym (start at .pre .1 .1 .1 .1)
 
 beyond : tie.Need-returns Inv-loop μ-loop
 beyond c =
@@ -67,7 +67,7 @@ spread-requires : tie.Need-spread-requires Inv-loop μ-loop
 spread-requires c κs =
     let at = c .before .before .before in
     let inv = at .before .loop .inv in
-    omega (arith, filling-room inv (at .loop-test .taken), inv .filled .next-right .sized)
+    omega (arith, filling-room inv (at .loop-test .taken), inv .filled .next-sized)
 
 word-of-requires : tie.Need-word-of-requires Inv-loop μ-loop
 word-of-requires c κs =
@@ -80,7 +80,7 @@ spread-requires-2 : tie.Need-spread-requires-2 Inv-loop μ-loop
 spread-requires-2 c κs =
     let at = turn (next-spread (c .before)) in
     let inv = at .before .loop .inv in
-    omega (arith, filling-room inv (at .loop-test .taken), inv .filled .word-right .sized)
+    omega (arith, filling-room inv (at .loop-test .taken), inv .filled .word-sized)
 
 double-fits : tie.Need-mul-n Inv-loop μ-loop
 double-fits c = omega (arith, turn-of c .loop-test .taken)
@@ -97,10 +97,10 @@ loop-again c =
     (lower .before .mul-mod .ensures .0) (word-spread c .before .word-of .ensures) (lower .spread .ensures) (word-spread c .spread2 .ensures)
 
 next-sized-2 : tie.Need-same-length-3 Inv-loop μ-loop
-next-sized-2 c = c .before .loop .inv .filled .next-right .sized ∙ sym (start (c .before) .pre .1 .1 .1 .0)
+next-sized-2 c = c .before .loop .inv .filled .next-sized ∙ sym (start (c .before) .pre .1 .1 .1 .0)
 
 word-sized-2 : tie.Need-same-length-4 Inv-loop μ-loop
-word-sized-2 c = c .before .loop .inv .filled .word-right .sized ∙ sym (start (c .before) .pre .1 .1 .1 .1)
+word-sized-2 c = c .before .loop .inv .filled .word-sized ∙ sym (start (c .before) .pre .1 .1 .1 .1)
 
 full : tie.Need-returns-2 Inv-loop μ-loop
 full c = filling-done (c .before .loop .inv) (c .loop-test .left)

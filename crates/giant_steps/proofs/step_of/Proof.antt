@@ -1,0 +1,118 @@
+-- `giant_steps::step_of` meets its contract. Invariant: the giant step at hand is x^e, and has not passed the last baby step; the measure is what is left
+-- up to the step. Assumes nothing.
+use mathlib.Core.Path.{_≡_}
+use Prim.Native.Nat.{_-_, _*_, _/_, _%_, _^_, _<_}
+use native.Mathlib.Omega.{arith}
+use borrow.Author.Needs.{needs}
+use Rattle.definitions.specs.Generator.{step}
+use Rattle.number_laws.specs.Bounds.{one-shl, lead-high}
+use Rattle.polynomial.specs.Modulus.{Modulus, lawful-modulus}
+use Rattle.order_laws.specs.Giant.{giant-start}
+use Rattle.giant_steps.proofs.ChainLaws.{chained-none}
+use Rattle.giant_steps.proofs.StepLaws.{Walk, count-fits, place-within, walk-found, walk-next, walk-less, walk-fits}
+use Rattle.giant_steps.proofs.step_of.Statement.{statement}
+use Rattle.giant_steps.proofs.step_of.Tie as tie
+
+abbrev Inv-loop : tie.InvT-loop
+Inv-loop m p q lead count first next value factor map giant₀ e₀ giant e = Walk m p q lead count first next value factor map giant e
+
+abbrev μ-loop : tie.MeasureT-loop
+μ-loop m p q lead count first next value factor map giant₀ e₀ giant e = step m p q - e
+
+-- ---- what is known
+abbrev Start : Type 0
+Start = tie.Start Inv-loop μ-loop
+
+-- the code's power of two
+half : (c : Start) → 1 * 2 ^ (c .args .m / 2) % 2 ^ 32 ≡ 2 ^ (c .args .m / 2)
+half c = one-shl (c .args .m / 2) (omega (arith, c .pre .0 .high))
+
+modulus : (c : tie.After-leading-term Inv-loop μ-loop) → Modulus (c .before .args .p) (c .leading-term .result)
+modulus c = lawful-modulus (c .before .pre .0) (c .before .pre .1 .0 .degree-p) (c .leading-term .ensures)
+
+abbrev filled : tie.After-fill Inv-loop μ-loop → tie.After-leading-term Inv-loop μ-loop
+filled c = c .before .before .before .before
+
+abbrev turn : tie.After-place-of Inv-loop μ-loop → tie.At-loop Inv-loop μ-loop
+turn c = c .before .before .before .before
+
+-- ---- the needs
+fill-requires : tie.Need-fill-requires Inv-loop μ-loop
+fill-requires c κs =
+    let term = c .before .before .before in
+    let start = term .before in
+    let small : start .args .q < term .leading-term .result = omega (arith, start .pre .1 .0 .smaller, term .leading-term .ensures) in
+    (modulus term, (small, (count-fits (start .pre .0) (half start), chained-none _)))
+
+pow-x-requires : tie.Need-pow-x-requires Inv-loop μ-loop
+pow-x-requires c κs = modulus (filled c)
+
+times-map-requires : tie.Need-times-map-requires Inv-loop μ-loop
+times-map-requires c κs =
+    let term = filled (c .before) in
+    (modulus term, (omega (arith, lead-high (term .before .pre .0), term .leading-term .ensures), c .pow-x .ensures .1))
+
+loop-holds : tie.Need-loop-holds Inv-loop μ-loop
+loop-holds c =
+    let term = filled (c .before .before) in
+    let pre = term .before .pre in
+    let power = c .before .pow-x .ensures .0 in
+    record {
+      lawful = pre .0;
+      formed = pre .1 .0;
+      full = pre .1 .1;
+      leading = term .leading-term .ensures;
+      half = half (term .before);
+      held = c .before .before .fill .ensures;
+      width = power;
+      maps = c .times-map .ensures;
+      at = giant-start _ _ _ _ power;
+    }
+
+place-of-requires : tie.Need-place-of-requires Inv-loop μ-loop
+place-of-requires c κs =
+    let walk = c .before .before .before .loop .inv in
+    (count-fits (walk .lawful) (walk .half), walk .held .chained)
+
+add-step : tie.Need-add-step Inv-loop μ-loop
+add-step c = omega (arith, walk-fits (turn (c .before) .loop .inv))
+
+sub-step : tie.Need-sub-step Inv-loop μ-loop
+sub-step c = omega (arith, place-within (turn (c .before) .loop .inv) (c .before .place-of .ensures))
+
+add-e : tie.Need-add-e Inv-loop μ-loop
+add-e c = omega (arith, walk-fits (turn (c .before .before .before) .loop .inv))
+
+loop-less : tie.Need-loop-less Inv-loop μ-loop
+loop-less c =
+    let looked-up = c .before .before .before in
+    walk-less (turn looked-up .loop .inv) (looked-up .place-of .ensures) (c .before .before .if1 .left)
+
+loop-again : tie.Need-loop-again Inv-loop μ-loop
+loop-again c =
+    let looked-up = c .before .before .before in
+    walk-next (turn looked-up .loop .inv) (looked-up .place-of .ensures) (c .image .ensures) (c .before .before .if1 .left)
+
+returns : tie.Need-returns Inv-loop μ-loop
+returns c = walk-found (turn (c .before) .loop .inv) (c .before .place-of .ensures) (c .if1 .taken)
+
+pub step-of-spec : {M : Type 1} → statement M
+step-of-spec =
+    tie.close
+    (tie.spec
+    Inv-loop
+    μ-loop
+    (λ c κs. search needs)
+    (λ c. search needs)
+    fill-requires
+    pow-x-requires
+    times-map-requires
+    loop-holds
+    place-of-requires
+    add-step
+    sub-step
+    (λ c κs. search needs)
+    add-e
+    loop-less
+    loop-again
+    returns)
