@@ -14,8 +14,11 @@ use Rattle.net_laws.specs.Point.{digitRow, digitRow-first, digitRow-next}
 use Rattle.digit_rows.specs.Powers.{Residues, FirstPowers}
 
 module _ {p lead : ℕ} (h : Modulus p lead) where
+  pub first-row : (q : ℕ) → digitRow p q 0 0 ≡ 1
+  first-row q = digitRow-first p q 0 ∙ rw power-zero (rem-one p (h .large))
+
   pub powers-start : (q : ℕ) → FirstPowers q p 1 (replicate largestDegree 1)
-  powers-start q zero l = sym (digitRow-first p q 0 ∙ rw power-zero (rem-one p (h .large)))
+  powers-start q zero l = sym (first-row q)
   powers-start q (suc i) l = absurd (omega arith)
 
   pub residues-start : (n : ℕ) → Residues lead (replicate n 1)

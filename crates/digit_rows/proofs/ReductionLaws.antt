@@ -1,23 +1,14 @@
--- The size of a number by its leading zeros, and one vector more that reduces. Assumes nothing.
+-- One vector more that reduces. Assumes nothing.
 use mathlib.Core.Path.{_≡_}
 use mathlib.Core.List.{List}
-use Prim.Native.Nat.{ℕ, zero, suc, _-_, _^_, _≤_, _<_, min}
+use Prim.Native.Nat.{ℕ, suc, _-_, _≤_, _<_, min}
 use native.Mathlib.Omega.{arith}
 use lib.ListN.{getD}
 use lib.Bits.{bitXor}
-use lib.Count.{leadingZeros, leading-of-zero}
 use Rattle.polynomial_laws.specs.Sum.{⊕-def}
-use Rattle.polynomial.specs.Digits.{leading-degree}
 use Rattle.net_laws.specs.Reduction.{reduce, reduceBy}
-use Rattle.net_laws.specs.Size.{size}
 use Rattle.digit_rows.specs.Basis.{newest}
 
-pub size-is : (v : ℕ) → v < 2 ^ 32 → 32 - leadingZeros 32 v ≡ size v
-unfolding size
-size-is zero l = omega (arith, leading-of-zero 32)
-size-is (suc v) l = omega (arith, leading-degree (suc v) (omega arith) l)
-
--- ---- reduction
 pub reduce-start : (b : List ℕ) (e r : ℕ) → r ≡ reduce (newest b (e - e)) r
 unfolding reduce newest
 reduce-start b e r = let none : e - e ≡ 0 = omega arith in rw none

@@ -22,13 +22,9 @@ unfolding newest
 newest-ext a b zero same = refl
 newest-ext a b (suc n) same = ap₂ _∷_ (same n (omega arith)) (newest-ext a b n (λ i l. same i (omega arith)))
 
-pub newest-kept : (xs : List ℕ) (n v : ℕ) → newest (set xs n v) n ≡ newest xs n
+newest-kept : (xs : List ℕ) (n v : ℕ) → newest (set xs n v) n ≡ newest xs n
 newest-kept xs n v = newest-ext (set xs n v) xs n (λ i l. getD-set-other xs n i v 0 (λ e. omega arith))
 
 pub newest-set : (xs : List ℕ) (n v : ℕ) → n < length xs → newest (set xs n v) (n + 1) ≡ v ∷ newest xs n
 unfolding newest
 newest-set xs n v fits = rw (add-one n) (ap₂ _∷_ (getD-set-same xs n v 0 fits) (newest-kept xs n v))
-
-pub newest-older : (a b : List ℕ) (n : ℕ) → newest a (n + 1) ≡ newest b (n + 1) → newest a n ≡ newest b n
-unfolding newest
-newest-older a b n same = let e : suc n ≡ n + 1 = omega arith in cc

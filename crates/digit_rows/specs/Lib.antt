@@ -1,3 +1,4 @@
 -- What the contracts of this crate and of those above cite.
 pub mod Powers
 pub mod Basis
+pub mod Table

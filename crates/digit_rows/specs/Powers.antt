@@ -1,10 +1,9 @@
--- Digit rows in an array: the powers of q modulo p are the first of each coordinate, and x times one is the next of its coordinate.
+-- The powers of q modulo p in an array, each the first digit row of its coordinate.
 -- Assumes nothing.
 use mathlib.Core.Path.{_≡_}
 use mathlib.Core.List.{List}
-use Prim.Native.Nat.{ℕ, _*_, _<_}
+use Prim.Native.Nat.{ℕ, _<_}
 use lib.ListN.{getD}
-use Rattle.definitions.specs.Polynomial.{rem}
 use Rattle.net_laws.specs.Point.{digitRow}
 
 abbrev pub Residues : ℕ → List ℕ → Type 0
@@ -18,9 +17,3 @@ FirstPowers q p n xs = (i : ℕ) → i < n → getD xs i 0 ≡ digitRow p q i 0
 pub record PowersOf (q p lead n : ℕ) (xs : List ℕ) : Type 0 where
   pub powers : FirstPowers q p n xs
   pub residues : Residues lead xs
-
-abbrev pub firstDigitRow : List ℕ → ℕ → ℕ
-firstDigitRow powers j = getD powers j 0
-
-abbrev pub nextDigitRow : ℕ → ℕ → ℕ
-nextDigitRow p r = rem (2 * r) p

@@ -10,7 +10,7 @@ use mathlib.Core.List.{List, [], _∷_, _++_}
 use Prim.Native.Nat.{ℕ, zero, suc, _+_, _*_, _^_, _≤_, _<_}
 use native.Mathlib.Nat.{add-zero, zero-add, zero-mul, suc-mul, mul-comm, eq-of-mul-eq-mul-right, le-mul-of-pos-right}
 use native.Mathlib.Omega.{arith}
-use lib.ListN.{length, replicate}
+use lib.ListN.{length, length-append, replicate}
 use lib.Pow.{pow-pos, pow-lt}
 use borrow.Author.Tests.{eqb-true, eq-eqb}
 use Rattle.definitions.specs.Polynomial.{degree}
@@ -42,7 +42,8 @@ FreeCubes p q l s = Free l (cubeRows (digitRow p q) l s)
 length-cubeRows : (G : ℕ → ℕ → ℕ) (l s : ℕ) → length (cubeRows G l s) ≡ s * l
 unfolding cubeRows
 length-cubeRows G l zero = sym (zero-mul l)
-length-cubeRows G l (suc s) = rw suc-mul (omega (arith, length-firstRows (G (suc s)) l (cubeRows G l s), length-cubeRows G l s))
+length-cubeRows G l (suc s) =
+    rw suc-mul (omega (arith, length-append (firstRows (G (suc s)) l) (cubeRows G l s), length-firstRows (G (suc s)) l, length-cubeRows G l s))
 
 -- ---- fewer of them
 pub free-behind : (d : ℕ) (front rs : List ℕ) → Free d (front ++ rs) → Free d rs

@@ -43,7 +43,8 @@ module _ (test : ℕ → Bool) where
 
         go : (b : Bool) → test i ≡ b → not b ≡ ltb top i
         go true t = sym (le-ltb top i (largest-least test n i low fits t))
-        go false f = sym (lt-ltb top i (le-unless (λ over. not-both (falls-to i top low (omega arith) (largest-to test n) (largest-passes test n (omega arith))) f)))
+        go false f =
+            sym (lt-ltb top i (le-unless (λ over. not-both (falls-to i top low (omega arith) (largest-to test n) (largest-passes test n (omega arith))) f)))
 
 -- ---- how many l have k l ≤ m and fail
 module _ (m k : ℕ) (test : ℕ → Bool) (some : 0 < k) (fits : (l : ℕ) → test l ≡ true → k * l ≤ m) where

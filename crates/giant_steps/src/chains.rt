@@ -1,5 +1,5 @@
-// The baby steps in chains by their low digits: place j + 1 holds q x^j; `first` has the last place whose residue has the low digits given, `next` the last
-// place before each whose residue has the same low digits, and 0 stands for none.
+// The baby steps in chains by their low digits, so that one of them is found by a few comparisons. The place of q x^j is j + 1, with the residue in value[j]
+// and the place before it in its chain in next[j]; `first` has the last place of each chain, and 0 stands for none.
 use limits::LARGEST_DEGREE;
 use polynomial::residues;
 ghost use mathlib.Core.Path.{_≡_};
@@ -12,18 +12,15 @@ ghost use Rattle.giant_steps.specs.Chains.{babySteps, holds, Chained, Ba
 // The most baby steps: 2^(m/2) of the largest degree.
 pub const BABY_STEPS: usize = 1 << (LARGEST_DEGREE / 2);
 
-// Their places, and place 0.
-pub const PLACES: usize = BABY_STEPS + 1;
-
-// Puts `count` baby steps, a power of two, behind each other into chains.
+// Puts the first `count` baby steps into chains, which are empty before. The count is a power of two, and one less than it masks the low digits.
 pub fn fill(
     count: u32,
     q: u32,
     p: u32,
     lead: u32,
     first: &mut [u32; BABY_STEPS],
-    next: &mut [u32; PLACES],
-    value: &mut [u32; PLACES],
+    next: &mut [u32; BABY_STEPS],
+    value: &mut [u32; BABY_STEPS],
 )
     requires { ⌜ Modulus p lead ⌝ }
     requires { ⌜ q < lead ⌝ }
@@ -31,14 +28,15 @@ pub fn fill(
     requires { ⌜ Chained (count - 1) 0 (now first) (now next) (now value) ⌝ }
     ensures { λ _. ⌜ BabySteps p q count count (now (first .exit)) (now (next .exit)) (now (value .exit)) ⌝ }
 {
+    let all = count as usize;
     let mut residue = q;
-    let mut place: u32 = 0;
-    while place < count {
-        place += 1;
+    let mut j: usize = 0;
+    while j < all {
         let low = (residue & (count - 1)) as usize;
-        value[place as usize] = residue;
-        next[place as usize] = first[low];
-        first[low] = place;
+        value[j] = residue;
+        next[j] = first[low];
+        j += 1;
+        first[low] = j as u32;
         residue = residues::times_x(residue, p, lead);
     }
 }
@@ -46,8 +44,8 @@ pub fn fill(
 // The last place that holds the residue, 0 where none does.
 pub fn place_of(
     first: &[u32; BABY_STEPS],
-    next: &[u32; PLACES],
-    value: &[u32; PLACES],
+    next: &[u32; BABY_STEPS],
+    value: &[u32; BABY_STEPS],
     count: u32,
     residue: u32,
 ) -> u32
@@ -57,10 +55,11 @@ pub fn place_of(
 {
     let mut place = first[(residue & (count - 1)) as usize];
     while place != 0 {
-        if value[place as usize] == residue {
+        let j = place as usize - 1;
+        if value[j] == residue {
             return place;
         }
-        place = next[place as usize];
+        place = next[j];
     }
     0
 }

@@ -1,7 +1,7 @@
 // The step of a row by giant steps. With B = 2^(m/2), the B residues q, q x, .., q x^(B-1) are the baby steps, and x^B, x^(2B), .. the giant ones. The
-// first giant step x^(Bi) that is a baby step, q x^j, has q = x^(Bi - j). The plain finder of `orders` walks all powers. Customers call nothing here.
+// first giant step x^(Bi) that is a baby step, q x^j, tells the step Bi - j. Judging keeps the plain finder of `orders`, as document 01 has it. Customers
+// call nothing here.
 use chains::BABY_STEPS;
-use chains::PLACES;
 use linear_maps::maps;
 use polynomial::digits;
 use polynomial::residues;
@@ -23,8 +23,8 @@ pub fn step_of(m: u32, p: u32, q: u32) -> u32
     let lead = digits::leading_term(m);
     let count: u32 = 1 << (m / 2);
     let mut first = [0u32; BABY_STEPS];
-    let mut next = [0u32; PLACES];
-    let mut value = [0u32; PLACES];
+    let mut next = [0u32; BABY_STEPS];
+    let mut value = [0u32; BABY_STEPS];
     chains::fill(count, q, p, lead, &mut first, &mut next, &mut value);
     let factor = residues::pow_x(count, p, lead);
     let map = maps::times_map(factor, p, lead);

@@ -1,2 +1,4 @@
--- Laws of one turn, over plain numbers.
+-- Laws of one turn of each function.
+pub mod RoomLaws
+pub mod TurnLaws
 pub mod WeightLaws

@@ -1,82 +1,64 @@
--- One turn of the search for the lightest digit rows, over plain numbers. Assumes nothing.
-use mathlib.Core.Path.{_≡_, refl, sym, ap, ap₂, _∙_}
-use mathlib.Core.Logic.{_⊎_, inl, inr}
-use mathlib.Core.List.{List, [], _∷_}
-use Prim.Native.Nat.{ℕ, zero, suc, _+_, _-_, _≤_, _<_, min}
-use native.Mathlib.Numerals.{add-one}
+-- `least_weight`: the search begins with nothing taken, and what it finds is the least weight.
+-- Assumes nothing.
+use mathlib.Core.Path.{_≡_, refl, sym, ap, _∙_}
+use mathlib.Core.List.{List, []}
+use Prim.Native.Nat.{ℕ, suc, _+_, _-_, _*_, _≤_, _<_}
 use native.Mathlib.Omega.{arith}
-use lib.ListN.{set, length, length-set}
-use Rattle.net_laws.specs.Reduction.{reduce}
-use Rattle.net_laws.specs.Size.{size}
-use Rattle.net_laws.specs.Lightest.{lightest, lightest-stops, lightest-goes-on}
-use Rattle.net_laws.specs.Weight.{leastWeight}
-use Rattle.digit_rows.specs.Powers.{firstDigitRow, nextDigitRow}
-use Rattle.digit_rows.specs.Basis.{basisRoom, newest, newest-kept, newest-set, newest-older}
-use Rattle.least_weight.specs.Weight.{Bounds, LightestFound, LeastFound}
+use lib.ListN.{getD, length}
+use Rattle.definitions.specs.Generator.{largestDegree}
+use Rattle.definitions.specs.Net.{tValue}
+use Rattle.definitions.specs.Ranking.{largestTop}
+use Rattle.polynomial_laws.specs.Degree.{HasDegree}
+use Rattle.net_laws.specs.Point.{digitRow}
+use Rattle.net_laws.specs.TValue.{StopBound}
+use Rattle.relation_laws.specs.Coordinate.{found-tValue}
+use Rattle.relation_laws.specs.Turn.{state-start}
+use Rattle.relations.specs.Slots.{slot}
+use Rattle.digit_rows.specs.Table.{Rows}
+use Rattle.least_weight.specs.Search.{largestBound, Words, Path, Room, Searched, LeastFound}
 
-module _ {f j e w : ℕ} (b : Bounds f j e w) where
-  pub bounds-less : {low : ℕ} → low ≤ w → Bounds f j e low
-  bounds-less less = record { some = b .some; sharp = b .sharp; one-of = b .one-of; room = b .room; light = omega (arith, b .light) }
+-- the rows of the table, as they stand
+tabled : List ℕ → ℕ → ℕ → ℕ
+tabled table c i = getD table (c * largestDegree + i) 0
 
-  -- one coordinate less
-  pub bounds-below : {low : ℕ} → low ≤ w → Bounds f (j - 1) e low
-  bounds-below less = record { some = b .some; sharp = b .sharp; one-of = omega (arith, b .one-of); room = b .room; light = omega (arith, b .light) }
+pub path-start : (table : List ℕ) (m c : ℕ) (b : List ℕ) → Words table → length b ≡ 64 → Path table m c 0 0 1 b 0
+unfolding tabled
+path-start table m c b words sized = record {
+  G = tabled table;
+  hs = [];
+  agree = λ j i some low l. refl;
+  state = state-start (tabled table) 32 64 c (slot b);
+  words = words;
+  odd = refl;
+  sized = sized;
+}
 
-  -- one digit row more, where what follows can be lighter
-  pub bounds-more : {low : ℕ} → low ≤ w → e + 1 + f < low → Bounds f j (e + 1) low
-  bounds-more less on = record { some = b .some; sharp = b .sharp; one-of = b .one-of; room = omega (arith, b .light); light = omega (arith, b .light) }
+module _ {table : List ℕ} {m f c w : ℕ} {b : List ℕ} where
+  pub least-found : {a : List ℕ} {r : ℕ} → 1 ≤ c → Searched table m f c 0 0 1 0 w 1 0 b a r → LeastFound table m f c w r
+  least-found {r = r} some x = record { less = x .less; is = is }
+    where
+      is : (p q : ℕ) → HasDegree p m → StopBound m p q f → Rows (digitRow p q) table m c → w ≡ suc m - tValue m p q c → r ≡ suc m - tValue m p q (suc c)
+      is p q of sound agree before =
+          let e : c ≡ suc (c - 1) = omega arith in
+          let found = x .found (digitRow p q) agree [] (state-start (digitRow p q) 32 64 c (slot b)) in
+          found-tValue m p of q f (c - 1) w r sound (before ∙ ap (λ (s : ℕ). suc m - tValue m p q s) e) (rw e at found)
+          ∙ ap (λ (s : ℕ). suc m - tValue m p q (suc s)) (sym e)
 
-module _ (p : ℕ) (powers : List ℕ) (f : ℕ) where
-  abbrev found : ℕ → ℕ → ℕ → ℕ → List ℕ → ℕ → ℕ
-  found = lightest (firstDigitRow powers) (nextDigitRow p) f
-
-  ends : (n j r e : ℕ) (bs : List ℕ) (w : ℕ) → (j ≡ 0) ⊎ (w ≤ e + f) → found n j r e bs w ≡ w
-  unfolding lightest
-  ends zero j r e bs w why = refl
-  ends (suc n) zero r e bs w why = refl
-  ends (suc n) (suc j) r e bs w (inl z) = absurd (omega arith)
-  ends (suc n) (suc j) r e bs w (inr l) = lightest-stops (firstDigitRow powers) (nextDigitRow p) f n j r e bs w l
-
-  pub stopped : (j r e : ℕ) (b : List ℕ) (w : ℕ) → (j ≡ 0) ⊎ (w ≤ e + f) → LightestFound p powers f j r e b b w w
-  stopped j r e b w why = record { found = sym (ends (j + (suc basisRoom - e)) j r e (newest b e) w why); less = omega arith; kept = refl; sized = refl }
-
-  -- the row r of coordinate j, reduced by the e rows taken to v, lowers the weight w to `low`
-  module _ (j r e : ℕ) (b : List ℕ) (w v low : ℕ) (some : j ≡ 0 → ⊥) (on : e + f < w) (reduces : v ≡ reduce (newest b e) r)
-      (lowers : low ≡ min w (e + 1 + size v)) (fits : e < basisRoom) where
-    -- with all that can follow the row it is `taken`, and then the coordinate is left
-    turned : (b₁ b₂ : List ℕ) (taken k : ℕ) → taken ≤ low → taken ≡ found (j + (suc basisRoom - suc e)) j (nextDigitRow p r) (suc e) (v ∷ newest b e) low
-        → newest b₁ e ≡ newest b e → length b₁ ≡ length b → LightestFound p powers f (j - 1) (firstDigitRow powers (j - 1)) e b₁ b₂ taken k
-        → LightestFound p powers f j r e b b₂ w k
-    turned b₁ b₂ taken k less takes kept sized leaves =
-        let i = j - 1 in
-        let n = i + (suc basisRoom - e) in
-        let here : j ≡ suc i = omega arith in
-        let turns : suc i + (suc basisRoom - e) ≡ suc n = omega arith in
-        let one-less : suc i + (suc basisRoom - suc e) ≡ n = omega arith in
-        let low-is : low ≡ min w (suc e + size v) = lowers ∙ ap (λ (x : ℕ). min w (x + size v)) (add-one e) in
-        rw here (record {
-          found =
-              rw (turns, lightest-goes-on (firstDigitRow powers) (nextDigitRow p) f n i r e (newest b e) w on)
-              ((rw kept at (leaves .found)) ∙ ap (found n i (firstDigitRow powers i) e (newest b e)) (rw (here, one-less, low-is, reduces) at takes));
-          less = omega (arith, leaves .less);
-          kept = leaves .kept ∙ kept;
-          sized = leaves .sized ∙ sized;
-        })
-
-    -- nothing that follows the row can be lighter
-    pub passed : (b₂ : List ℕ) (k : ℕ) → low ≤ e + 1 + f → LightestFound p powers f (j - 1) (firstDigitRow powers (j - 1)) e b b₂ low k
-        → LightestFound p powers f j r e b b₂ w k
-    passed b₂ k full = turned b b₂ low k (omega arith) (sym (ends _ j _ (suc e) _ low (inr (omega arith)))) refl refl
-
-    pub followed : (b₁ b₂ : List ℕ) (next taken k : ℕ) → next ≡ nextDigitRow p r → e < length b
-        → LightestFound p powers f j next (e + 1) (set b e v) b₁ low taken → LightestFound p powers f (j - 1) (firstDigitRow powers (j - 1)) e b₁ b₂ taken k → LightestFound p powers f j r e b b₂ w k
-    followed b₁ b₂ next taken k moves long takes =
-        turned b₁ b₂ taken k (takes .less) (rw (newest-set b e v long, add-one e, moves) at (takes .found))
-        (newest-older b₁ (set b e v) e (takes .kept) ∙ newest-kept b e v) (takes .sized ∙ length-set b e v)
-
-  -- the first row of coordinate j is taken
-  pub taken-first : (j w next low k : ℕ) → next ≡ nextDigitRow p (firstDigitRow powers j) → low ≡ min w (1 + size (firstDigitRow powers j)) → k ≤ low
-      → k ≡ found (j + basisRoom) j next 1 (firstDigitRow powers j ∷ []) low → LeastFound p powers f j w k
-  unfolding leastWeight
-  taken-first j w next low k moves lowers less e =
-      record { found = e ∙ ap₂ (λ (n l : ℕ). found (j + basisRoom) j n 1 (firstDigitRow powers j ∷ []) l) moves lowers; less = omega arith }
+pub room-start : {m f c w to : ℕ} → 1 ≤ f → f ≤ largestBound → 1 ≤ c → c < largestTop → m ≤ largestDegree → w ≤ suc m → to ≤ 32 → (2 ≤ c → to ≤ m + 1 - w)
+    → Room m f c 0 0 1 (1 + to) 0 w
+room-start a b some few small least most part = record {
+  bound-low = a;
+  bound-high = b;
+  degree-high = small;
+  coordinate-low = some;
+  coordinate-high = few;
+  least = least;
+  counted = omega arith;
+  rows-few = omega arith;
+  begins = omega arith;
+  reaches = omega arith;
+  ordered = omega arith;
+  ends = omega arith;
+  share = omega arith;
+  wide = λ two. omega (arith, part two);
+}

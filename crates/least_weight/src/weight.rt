@@ -1,76 +1,40 @@
-// The least weight of digit rows that are not free, one digit row taken at a time.
-use digit_rows::reduction::BASIS_ROOM;
-use digit_rows::reduction::lesser;
-use digit_rows::reduction::reduce;
-use limits::COORDINATES;
-use polynomial::residues::times_x;
-ghost use mathlib.Core.Path.{_≡_};
-ghost use Prim.Native.Nat.{_<_, _≤_};
-ghost use lib.ListN.{length};
-ghost use Rattle.polynomial.specs.Modulus.{Modulus};
-ghost use Rattle.digit_rows.specs.Basis.{basisRoom};
-ghost use Rattle.digit_rows.specs.Powers.{Residues};
-ghost use Rattle.least_weight.specs.Weight.{Bounds, LightestFound, LeastFound};
+// The least weight with one coordinate more.
+use crate::ranges::search_ranges;
+use crate::ranges::width;
+use digit_rows::table::TABLE;
+use relations::vectors::SLOTS;
+ghost use Prim.Native.Nat.{suc, _^_, _<_, _≤_};
+ghost use Rattle.definitions.specs.Generator.{largestDegree};
+ghost use Rattle.definitions.specs.Ranking.{largestTop};
+ghost use Rattle.least_weight.specs.Search.{largestBound, Words, LeastFound};
 
-// The least weight with the digit rows taken and what can follow them, from the digit row `digits` of the coordinate on; `least` is the least so
-// far, and what is to come weighs at least `bound`.
-pub fn lightest(
-    coordinate: usize,
-    taken: usize,
-    least: usize,
-    digits: u32,
-    basis: &mut [u32; BASIS_ROOM],
-    powers: &[u32; COORDINATES],
-    bound: usize,
-    p: u32,
-    lead: u32,
-) -> usize
-    requires { ⌜ Modulus p lead ⌝ }
-    requires { ⌜ digits < lead ⌝ }
-    requires { ⌜ Residues lead (now powers) ⌝ }
-    requires { ⌜ Bounds bound coordinate taken least ⌝ }
-    requires { ⌜ length (now basis) ≡ basisRoom ⌝ }
-    ensures { λ found. ⌜ LightestFound p (now (powers .entry)) bound coordinate digits taken (now (basis .entry)) (now (basis .exit)) least found ⌝ }
-{
-    if coordinate == 0 {
-        return least;
-    }
-    if taken + bound >= least {
-        return least;
-    }
-    let v = reduce(basis, taken, digits);
-    let more = taken + 1;
-    let low = lesser(least, more, v);
-    let below = coordinate - 1;
-    if more + bound >= low {
-        let first = powers[below];
-        return lightest(below, taken, low, first, basis, powers, bound, p, lead);
-    }
-    basis[taken] = v;
-    let next = times_x(digits, p, lead);
-    let followed = lightest(coordinate, more, low, next, basis, powers, bound, p, lead);
-    let first = powers[below];
-    lightest(below, taken, followed, first, basis, powers, bound, p, lead)
-}
-
-// The least weight with one coordinate more, where `least` is that without it.
+// The least weight with the coordinate, where `least` is that without it: the search begins with nothing taken, and with one digit of the coordinate.
 pub fn least_weight(
-    coordinate: usize,
-    least: usize,
-    powers: &[u32; COORDINATES],
-    bound: usize,
-    p: u32,
-    lead: u32,
-) -> usize
-    requires { ⌜ Modulus p lead ⌝ }
-    requires { ⌜ Residues lead (now powers) ⌝ }
-    requires { ⌜ Bounds bound coordinate 1 least × (0 < coordinate) ⌝ }
-    ensures { λ found. ⌜ LeastFound p (now (powers .entry)) bound coordinate least found ⌝ }
+    coordinate: u32,
+    least: u32,
+    degree: u32,
+    bound: u32,
+    table: &[u32; TABLE],
+) -> u32
+    requires { ⌜ Words (now table) ⌝ }
+    requires { ⌜ (1 ≤ bound) × (bound ≤ largestBound) × (1 ≤ coordinate) × (coordinate < largestTop) × (degree ≤ largestDegree) × (least ≤ suc degree) ⌝ }
+    ensures { λ r. ⌜ LeastFound (now (table .entry)) degree bound coordinate least r ⌝ }
 {
-    let digits = powers[coordinate];
-    let mut basis: [u32; BASIS_ROOM] = [0; BASIS_ROOM];
-    basis[0] = digits;
-    let low = lesser(least, 1, digits);
-    let next = times_x(digits, p, lead);
-    lightest(coordinate, 1, low, next, &mut basis, powers, bound, p, lead)
+    let mut basis: [u64; SLOTS] = [0; SLOTS];
+    let end = 1 + width(degree + 1 - least, coordinate);
+    search_ranges(
+        coordinate,
+        0,
+        0,
+        1,
+        end,
+        0,
+        least,
+        0,
+        1,
+        degree,
+        bound,
+        table,
+        &mut basis,
+    )
 }

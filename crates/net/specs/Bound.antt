@@ -16,7 +16,7 @@ use Rattle.order_laws.specs.Cycle.{degree-big}
 use Rattle.order_laws.specs.State.{state-suc}
 use Rattle.order_laws.specs.Accepted.{full-period}
 use Rattle.net_laws.specs.TValue.{StopBound, stop-one, stop-two}
-pub use Rattle.least_weight.specs.Weight.{largestBound}
+pub use Rattle.least_weight.specs.Search.{largestBound}
 
 -- What is to come weighs f at least.
 pub record Stop (m p q f : ℕ) : Type 0 where

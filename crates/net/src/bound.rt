@@ -6,13 +6,13 @@ use fractions::quotients;
 use polynomial::digits;
 
 // The bound for every pair.
-pub const ANY_PAIR: usize = 1;
+pub const ANY_PAIR: u32 = 1;
 
 // The bound where q has an inverse modulo p, as in every accepted pair.
-pub const INVERTIBLE: usize = 2;
+pub const INVERTIBLE: u32 = 2;
 
-// The sharper bound where every partial quotient of q/p has degree one, since q then has an inverse; the test costs far less than a digit row.
-pub fn stop_bound(degree: u32, p: u32, q: u32) -> usize
+// The sharper bound where every partial quotient of q/p has degree one, since q then has an inverse; the test costs far less than a dimension.
+pub fn stop_bound(degree: u32, p: u32, q: u32) -> u32
     requires { ⌜ LawfulDegree degree ⌝ }
     requires { ⌜ WellFormed degree p q ⌝ }
     ensures { λ f. ⌜ Stop degree p q f ⌝ }

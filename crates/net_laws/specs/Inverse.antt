@@ -7,7 +7,6 @@ use mathlib.Core.List.{List, [], _∷_}
 use Prim.Native.Nat.{ℕ, zero, suc, _+_, _^_, _≤_, _<_}
 use native.Mathlib.Omega.{arith}
 use lib.Dec.{eqb}
-use lib.ListN.{length}
 use borrow.Author.Tests.{eq-eqb}
 use Rattle.definitions.specs.Polynomial.{degree, prod, power, rem}
 use Rattle.definitions.specs.Points.{leading, coordinate}
@@ -16,11 +15,10 @@ use Rattle.number_laws.specs.Count.{count-ext, count-permute}
 use Rattle.polynomial_laws.specs.Product.{prod-assoc, prod-factors, one-prod}
 use Rattle.polynomial_laws.specs.Division.{rem-lt, rem-small, rem-prod-left, rem-prod-right}
 use Rattle.polynomial_laws.specs.Power.{power-suc}
-use Rattle.net_laws.specs.Cell.{Free, passing}
+use Rattle.net_laws.specs.Cell.{passing}
 use Rattle.net_laws.specs.Net.{total, Box, none, more}
 use Rattle.net_laws.specs.Point.{digitRow, leading-none}
-use Rattle.net_laws.specs.Share.{FreeShare, shareRows, length-shareRows, corner, corner-box, free-box, box-free}
-use Rattle.net_laws.specs.Lightest.{share-reach, reach-share}
+use Rattle.net_laws.specs.Share.{FreeShare, corner, corner-box, free-box, box-free}
 use Rattle.net_laws.specs.Weight.{Sound}
 
 module _ (p : ℕ) (pos : 0 < p) (q back : ℕ) (inverse : rem (prod back q) p ≡ rem 1 p) where
@@ -58,13 +56,7 @@ module _ (p : ℕ) (pos : 0 < p) (q back : ℕ) (inverse : rem (prod back q) p �
 
   pub sound-two : Sound (digitRow p q) (degree p) 2
   unfolding total
-  sound-two j W least all x (suc c) few l = absurd (omega arith)
-  sound-two j W least all x zero few l = let share = reach-share (digitRow p q) x in rw (share .2) (go (share .0) (share .1) (share .2))
-    where
-      go : (ds : List ℕ) → length ds ≡ suc j → all ≡ shareRows (digitRow p q) 1 ds → Free 0 (shareRows (digitRow p q) 1 ds)
-      go [] len e = absurd (omega arith)
-      go (d ∷ ds) len e =
-          let weight : length all ≡ d + total ds = ap length e ∙ length-shareRows (digitRow p q) 1 (d ∷ ds) in
-          free-up d ds (omega (arith, least .most))
-          (least .lighter (shareRows (digitRow p q) 1 ds) (share-reach (digitRow p q) j ds (omega arith)) d
-          (omega (arith, length-shareRows (digitRow p q) 1 ds)))
+  sound-two j W least (suc c) ds len few l = absurd (omega arith)
+  sound-two j W least zero [] len few l = absurd (omega arith)
+  sound-two j W least zero (d ∷ ds) len few l =
+      free-up d ds (omega (arith, least .most)) (least .lighter d ds (omega arith) (omega arith))

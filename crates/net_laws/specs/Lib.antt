@@ -9,8 +9,6 @@ pub mod Point
 pub mod Net
 pub mod Smallest
 pub mod Share
-pub mod Size
-pub mod Lightest
 pub mod Weight
 pub mod Inverse
 pub mod TValue

@@ -11,7 +11,7 @@ use native.Mathlib.Nat.{pow-suc}
 use native.Mathlib.Omega.{arith}
 use lib.Arith.{lt-one}
 use lib.Dec.{eqb}
-use lib.ListN.{length}
+use lib.ListN.{length, length-append}
 use lib.Pow.{pow-pos, pow-lt, pow-add, shl-shr}
 use borrow.Author.Tests.{eqb-true, eq-eqb}
 use Rattle.definitions.specs.Polynomial.{degree}
@@ -44,15 +44,16 @@ unfoldable pub corner : List ℕ → List ℕ
 corner [] = []
 corner (d ∷ ds) = 0 ∷ corner ds
 
-pub length-firstRows : (f : ℕ → ℕ) (d : ℕ) (rs : List ℕ) → length (firstRows f d ++ rs) ≡ d + length rs
+pub length-firstRows : (f : ℕ → ℕ) (d : ℕ) → length (firstRows f d) ≡ d
 unfolding firstRows
-length-firstRows f zero rs = omega arith
-length-firstRows f (suc d) rs = omega (arith, length-firstRows f d rs)
+length-firstRows f zero = refl
+length-firstRows f (suc d) = ap suc (length-firstRows f d)
 
 pub length-shareRows : (G : ℕ → ℕ → ℕ) (j : ℕ) (ds : List ℕ) → length (shareRows G j ds) ≡ total ds
 unfolding shareRows total
 length-shareRows G j [] = refl
-length-shareRows G j (d ∷ ds) = length-firstRows (G j) d (shareRows G (suc j) ds) ∙ ap (λ (n : ℕ). d + n) (length-shareRows G (suc j) ds)
+length-shareRows G j (d ∷ ds) =
+    length-append (firstRows (G j) d) (shareRows G (suc j) ds) ∙ ap₂ _+_ (length-firstRows (G j) d) (length-shareRows G (suc j) ds)
 
 pub corner-box : (ds : List ℕ) → Box ds (corner ds)
 unfolding corner

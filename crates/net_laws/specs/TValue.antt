@@ -1,24 +1,22 @@
 -- The t-value of a pair is m + 1 less the least weight w: with m - t digits all shares are free just where m - t < w, since rows that are not free
--- stay so with more powers of x. So one coordinate more takes m + 1 - t(s) to m + 1 - t(s + 1), with the bound 1 for every pair, and
--- with 2 where q has an inverse modulo p; t(1) = 0, t(s) is at least t(s - 1), and t is at most m.
+-- stay so with more powers of x. What is to come weighs 1 at least for every pair, and 2 where q has an inverse modulo p; t(1) = 0, t(s) is at least
+-- t(s - 1), and t is at most m.
 -- Assumes nothing.
-use mathlib.Core.Path.{_≡_, sym, ap, subst}
+use mathlib.Core.Path.{_≡_, subst}
 use mathlib.Core.Logic.{_↔_}
 use mathlib.Core.List.{List, [], _∷_}
-use Prim.Native.Nat.{ℕ, suc, _-_, _*_, _≤_, _<_}
+use Prim.Native.Nat.{ℕ, suc, _-_, _≤_}
 use native.Mathlib.Omega.{arith}
-use lib.ListN.{length}
 use lib.Pow.{pow-mono}
-use Rattle.definitions.specs.Polynomial.{degree, prod, rem}
+use Rattle.definitions.specs.Polynomial.{prod, rem}
 use Rattle.definitions.specs.Net.{tValue}
 use Rattle.polynomial_laws.specs.Degree.{HasDegree, degree-unique, positive}
 use Rattle.net_laws.specs.Cell.{Free}
-use Rattle.net_laws.specs.Net.{Net}
+use Rattle.net_laws.specs.Net.{total, Net}
 use Rattle.net_laws.specs.Smallest.{tValue-smallest}
-use Rattle.net_laws.specs.Point.{digitRow, digitRow-suc}
-use Rattle.net_laws.specs.Share.{shareRows, length-shareRows, net-free}
-use Rattle.net_laws.specs.Lightest.{share-reach, reach-share}
-use Rattle.net_laws.specs.Weight.{leastWeight, AllFree, Least, Sound, sound-one, least-zero, least-falls, least-unique, leastWeight-least}
+use Rattle.net_laws.specs.Point.{digitRow}
+use Rattle.net_laws.specs.Share.{shareRows, net-free}
+use Rattle.net_laws.specs.Weight.{AllFree, Least, Sound, sound-one, least-zero, least-falls, least-unique}
 use Rattle.net_laws.specs.Inverse.{sound-two}
 
 free-fewer : (c d : ℕ) (rs : List ℕ) → c ≤ d → Free d rs → Free c rs
@@ -35,19 +33,7 @@ module _ (m p : ℕ) (of : HasDegree p m) (q : ℕ) where
   rows = digitRow p q
 
   net-allFree : (j t : ℕ) → t ≤ m → Net m p q (suc j) t ↔ AllFree rows j (m - t)
-  net-allFree j t = subst (λ (m : ℕ). t ≤ m → Net m p q (suc j) t ↔ AllFree rows j (m - t)) (degree-unique p m of) (λ le. (out le, back le))
-    where
-      out : t ≤ degree p → Net (degree p) p q (suc j) t → AllFree rows j (degree p - t)
-      out le net all x c sum =
-          let share = reach-share rows x in
-          rw (share .2)
-          (net-free p (positive of) q j t le .0 net c (share .0) (share .1)
-          (omega (arith, ap length (share .2), length-shareRows rows 1 (share .0))))
-
-      back : t ≤ degree p → AllFree rows j (degree p - t) → Net (degree p) p q (suc j) t
-      back le free =
-          net-free p (positive of) q j t le .1
-          (λ d ds len sum. free (shareRows rows 1 ds) (share-reach rows j ds len) d (omega (arith, length-shareRows rows 1 ds)))
+  net-allFree j t = subst (λ (m : ℕ). t ≤ m → Net m p q (suc j) t ↔ AllFree rows j (m - t)) (degree-unique p m of) (net-free p (positive of) q j t)
 
   -- ---- the least weight and the t-value tell each other: w(s) = m + 1 - t(s)
   pub least-tValue : (j : ℕ) → Least rows m j (suc m - tValue m p q (suc j))
@@ -56,8 +42,9 @@ module _ (m p : ℕ) (of : HasDegree p m) (q : ℕ) where
       let S = tValue-smallest m p q (suc j) (positive of) in
       record {
         most = omega arith;
-        lighter = λ all x c l.
-            free-fewer c (m - t - length all) all (omega arith) (net-allFree j t (S .most) .0 (S .net) all x (m - t - length all) (omega arith));
+        lighter = λ c ds len l.
+            let rest = m - t - total ds in
+            free-fewer c rest (shareRows rows 1 ds) (omega arith) (net-allFree j t (S .most) .0 (S .net) rest ds len (omega arith));
         some = λ l free.
             let e : suc m - t ≡ m - (t - 1) = omega arith in
             omega (arith, S .least (t - 1) (net-allFree j (t - 1) (omega (arith, S .most)) .1 (rw e at free)));
@@ -75,16 +62,9 @@ module _ (m p : ℕ) (of : HasDegree p m) (q : ℕ) where
   pub tValue-grows : (j : ℕ) → tValue m p q (suc j) ≤ tValue m p q (suc (suc j))
   tValue-grows j = omega (arith, least-falls rows m j _ _ (least-tValue j) (least-tValue (suc j)), tValue-most (suc j))
 
-  -- ---- one coordinate more
+  -- ---- what is to come
   pub stop-one : StopBound m p q 1
   stop-one = sound-one rows m
 
   pub stop-two : (r : ℕ) → rem (prod r q) p ≡ rem 1 p → StopBound m p q 2
   stop-two r inverse = rw (degree-unique p m of) at (sound-two p (positive of) q r inverse)
-
-  pub leastWeight-tValue : (start : ℕ → ℕ) (f room j W : ℕ) → m ≤ room → StopBound m p q f → ((i : ℕ) → i < suc (suc j) → start i ≡ digitRow p q i 0)
-      → W ≡ suc m - tValue m p q (suc j) → leastWeight start (λ r. rem (2 * r) p) f room (suc j) W ≡ suc m - tValue m p q (suc (suc j))
-  leastWeight-tValue start f room j W fits sound starts e =
-      tValue-least (suc j) _
-      (leastWeight-least rows m start (λ r. rem (2 * r) p) (λ j d. sym (digitRow-suc p (positive of) q j d)) f room fits sound j W starts
-      (rw e (least-tValue j)))

@@ -52,9 +52,12 @@ lawfulTop-is top = between-is leastTop largestTop top
 pub lawfulDimension-is : (s : ℕ) → (lawfulDimension s ≡ true) ↔ LawfulDimension s
 lawfulDimension-is s = between-is 1 largestTop s
 
--- The code's 1 << k, in a word of 32 digits.
+-- The code's 1 << k, in a word of w digits; and of 32.
+pub one-shl-in : (w k : ℕ) → k < w → 1 * 2 ^ k % 2 ^ w ≡ 2 ^ k
+one-shl-in w k h = mod-eq-of-lt (rw one-mul (pow-lt h)) ∙ one-mul (2 ^ k)
+
 pub one-shl : (k : ℕ) → k < 32 → 1 * 2 ^ k % 2 ^ 32 ≡ 2 ^ k
-one-shl k h = mod-eq-of-lt (rw one-mul (pow-lt h)) ∙ one-mul (2 ^ k)
+one-shl = one-shl-in 32
 
 module _ {m : ℕ} (h : LawfulDegree m) where
   pub lead-is : 1 * 2 ^ m % 2 ^ 32 ≡ 2 ^ m

@@ -8,7 +8,7 @@ use Prim.Native.Nat.{ℕ, suc, _+_, _-_, _*_, _%_, _^_, _≤_, _<_}
 use native.Mathlib.Nat.{mod-lt, mul-suc, le-antisymm}
 use native.Mathlib.Omega.{arith}
 use lib.Pow.{pow-mono}
-use Rattle.definitions.specs.Polynomial.{degree, prod, rem}
+use Rattle.definitions.specs.Polynomial.{prod, rem}
 use Rattle.definitions.specs.Generator.{period, primitive}
 use Rattle.number_laws.specs.Truth.{le-unless}
 use Rattle.number_laws.specs.Pigeon.{Numbering, pigeonhole}

@@ -1,7 +1,7 @@
 -- Giant steps: modulo a primitive p of degree m the step s of q is found by the n residues q, q x, .., q x^(n-1), n ≤ 2^m - 1, of which q x^j is x^(s+j).
 -- Let the exponent c, n at least, be below s + n. Where x^c is q x^j, s is c - j: the exponents s + j and c differ by less than the order of x.
 -- Where x^c is none of these residues, c is below s, since c - s would be a j; so c + n is below s + n too. Assumes nothing.
-use mathlib.Core.Path.{_≡_, refl, sym, ap, _∙_}
+use mathlib.Core.Path.{_≡_, sym, ap, _∙_}
 use mathlib.Core.Bool.{true}
 use Prim.Native.Nat.{ℕ, _+_, _-_, _*_, _/_, _^_, _≤_, _<_}
 use native.Mathlib.Omega.{arith}

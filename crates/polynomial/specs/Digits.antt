@@ -1,4 +1,4 @@
--- Digits of words: the degree is what leading zeros leave of 32, and a mask of one digit tells that digit.
+-- Digits of words: the degree is what leading zeros leave of a word's digits, and a mask of one digit tells that digit.
 -- Assumes nothing.
 use mathlib.Core.Path.{_≡_, ap, _∙_}
 use Prim.Native.Nat.{ℕ, suc, _+_, _-_, _*_, _/_, _%_, _^_, _≤_, _<_}
@@ -10,10 +10,14 @@ use lib.Count.{leadingZeros, leading-top}
 use Rattle.definitions.specs.Polynomial.{degree}
 use Rattle.polynomial_laws.specs.Degree.{degree-unique, leading-one}
 
-pub leading-degree : (a : ℕ) → 0 < a → a < 2 ^ 32 → leadingZeros 32 a + suc (degree a) ≡ 32
-leading-degree a pos fits =
-    let (j, place, least, most) = leading-top 32 a pos fits in
+-- in a word of w digits; and of 32
+pub leading-degree-in : (w a : ℕ) → 0 < a → a < 2 ^ w → leadingZeros w a + suc (degree a) ≡ w
+leading-degree-in w a pos fits =
+    let (j, place, least, most) = leading-top w a pos fits in
     omega (arith, degree-unique a j (record { least = least; most = omega arith }))
+
+pub leading-degree : (a : ℕ) → 0 < a → a < 2 ^ 32 → leadingZeros 32 a + suc (degree a) ≡ 32
+leading-degree = leading-degree-in 32
 
 -- ---- the digit at x^m, by a mask
 pub mask : (m a : ℕ) → bitAnd a (2 ^ m) ≡ a / 2 ^ m % 2 * 2 ^ m

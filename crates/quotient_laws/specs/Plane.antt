@@ -24,8 +24,7 @@ use Rattle.fraction_laws.specs.WellFormed.{WellFormed}
 use Rattle.net_laws.specs.Cell.{Free}
 use Rattle.net_laws.specs.Net.{total}
 use Rattle.net_laws.specs.Point.{digitRow}
-use Rattle.net_laws.specs.Share.{shareRows, length-shareRows}
-use Rattle.net_laws.specs.Lightest.{Reach, reach-share, share-reach}
+use Rattle.net_laws.specs.Share.{shareRows}
 use Rattle.net_laws.specs.Weight.{AllFree, Least, least-unique}
 use Rattle.net_laws.specs.TValue.{least-tValue, tValue-most}
 use Rattle.quotient_laws.specs.Degrees.{Falling, wellFormed-falling, quotientDegree-least, linear-degrees}
@@ -73,14 +72,11 @@ module _ (p q : ℕ) (f : Falling p q) where
       (free-rows (multiple p q) multiple-additive c d
       (λ b nonzero short. le-unless (λ small. omega (arith, near-bound p q f d c (multiple-near d c b nonzero short small)))))
 
-  plane-lighter : (all : List ℕ) → Reach (digitRow p q) 1 0 [] all → (c : ℕ) → length all + c + loss p q < degree p + 2 → Free c all
+  plane-lighter : (c : ℕ) (ds : List ℕ) → length ds ≡ 1 → total ds + c + loss p q < degree p + 2 → Free c (shareRows (digitRow p q) 1 ds)
   unfolding total
-  plane-lighter all x c light = let share = reach-share (digitRow p q) x in rw (share .2) (go (share .0) (share .1) (share .2))
-    where
-      go : (ds : List ℕ) → length ds ≡ 1 → all ≡ shareRows (digitRow p q) 1 ds → Free c (shareRows (digitRow p q) 1 ds)
-      go [] len e = absurd (omega arith)
-      go (d ∷ []) len e = plane-free d c (omega (arith, ap length e, length-shareRows (digitRow p q) 1 (d ∷ [])))
-      go (d ∷ d₁ ∷ ds) len e = absurd (omega arith)
+  plane-lighter c [] len light = absurd (omega arith)
+  plane-lighter c (d ∷ []) len light = plane-free d c (omega arith)
+  plane-lighter c (d ∷ d₁ ∷ ds) len light = absurd (omega arith)
 
   plane-some : (W : ℕ) → W + loss p q ≡ degree p + 2 → AllFree (digitRow p q) 1 W → ⊥
   unfolding total
@@ -88,9 +84,7 @@ module _ (p q : ℕ) (f : Falling p q) where
       let t = nearest p q f in
       let n = t .near in
       let low : t .c ≤ degree p = omega (arith, t .weight, near-some n, loss-some p q) in
-      let len = length-shareRows (digitRow p q) 1 (t .d ∷ []) in
-      let all : Free (t .c) (shareRows (digitRow p q) 1 (t .d ∷ [])) =
-      free _ (share-reach (digitRow p q) 1 (t .d ∷ []) refl) (t .c) (omega (arith, t .weight)) in
+      let all = free (t .c) (t .d ∷ []) refl (omega (arith, t .weight)) in
       let large = rows-free (multiple p q) multiple-additive (t .c) (t .d) (rw plane-rows at all) (n .b) (n .nonzero) (n .short) in
       omega (arith, near-multiple (t .d) (t .c) n low)
 
@@ -109,7 +103,7 @@ module _ {m p q : ℕ} (w : WellFormed m p q) where
       let fits = loss-most p q falls in
       record {
         most = omega (arith, loss-some p q);
-        lighter = λ all x c l. plane-lighter p q falls all x c (omega arith);
+        lighter = λ c ds len l. plane-lighter p q falls c ds len (omega arith);
         some = λ l. plane-some p q falls (suc (suc m) - loss p q) (omega arith);
       }
 

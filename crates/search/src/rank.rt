@@ -14,11 +14,12 @@ ghost use Rattle.search.specs.Standing.{Valued, Begun, Weighed};
 use crate::frame::Frame;
 use crate::frame::Tally;
 use definitions::Selection;
+use digit_rows::table::add_coordinate;
+use digit_rows::table::first_coordinate;
 use gaps::sum::resolution_gaps;
 use limits::LONGEST_ROW;
 use net::bound::INVERTIBLE;
 use net::values::next_t;
-use net::values::powers;
 use row_order::compare::RANKS_FROM;
 use row_order::compare::STEP;
 use row_order::compare::ranks_before;
@@ -78,11 +79,13 @@ pub fn weigh(
     row[0] = p;
     row[1] = q;
     row[STEP] = 0;
-    let powers = powers(m, p, q);
-    let mut value = next_t(m, p, q, 2, 0, &powers, INVERTIBLE);
+    let mut table = first_coordinate();
+    add_coordinate(p, q, 1 << m, m as usize, 1, &mut table);
+    // t(2) is 0, since the partial quotients are linear.
+    let mut value: u32 = 0;
     let mut s: usize = RANKS_FROM;
     while s < end {
-        value = next_t(m, p, q, s, value, &powers, INVERTIBLE);
+        value = next_t(m, p, q, s, value, &mut table, INVERTIBLE);
         row[s] = value;
         s += 1;
         if is_low(row, s, f, last) {

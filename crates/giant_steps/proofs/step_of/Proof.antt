@@ -7,14 +7,15 @@ use borrow.Author.Needs.{needs}
 use Rattle.definitions.specs.Generator.{step}
 use Rattle.number_laws.specs.Bounds.{one-shl, lead-high}
 use Rattle.polynomial.specs.Modulus.{Modulus, lawful-modulus}
-use Rattle.order_laws.specs.Giant.{giant-start}
+use Rattle.order_laws.specs.Giant.{GiantAt, giant-start}
 use Rattle.giant_steps.proofs.ChainLaws.{chained-none}
-use Rattle.giant_steps.proofs.StepLaws.{Walk, count-fits, place-within, walk-found, walk-next, walk-less, walk-fits}
+use Rattle.giant_steps.proofs.StepLaws.{Ground, count-fits, exponent-fits, place-within, step-told, giant-more, nearer}
 use Rattle.giant_steps.proofs.step_of.Statement.{statement}
 use Rattle.giant_steps.proofs.step_of.Tie as tie
 
 abbrev Inv-loop : tie.InvT-loop
-Inv-loop m p q lead count first next value factor map giant₀ e₀ giant e = Walk m p q lead count first next value factor map giant e
+Inv-loop m p q lead count first next value factor map giant₀ e₀ giant e =
+    Ground m p q lead count first next value factor map × GiantAt m p q count e giant
 
 abbrev μ-loop : tie.MeasureT-loop
 μ-loop m p q lead count first next value factor map giant₀ e₀ giant e = step m p q - e
@@ -56,45 +57,56 @@ loop-holds : tie.Need-loop-holds Inv-loop μ-loop
 loop-holds c =
     let term = filled (c .before .before) in
     let pre = term .before .pre in
-    let power = c .before .pow-x .ensures .0 in
-    record {
-      lawful = pre .0;
-      formed = pre .1 .0;
-      full = pre .1 .1;
-      leading = term .leading-term .ensures;
-      half = half (term .before);
-      held = c .before .before .fill .ensures;
-      width = power;
-      maps = c .times-map .ensures;
-      at = giant-start _ _ _ _ power;
-    }
+    let power = c .before .pow-x .ensures .0 in (
+      record {
+        lawful = pre .0;
+        formed = pre .1 .0;
+        full = pre .1 .1;
+        leading = term .leading-term .ensures;
+        half = half (term .before);
+        held = c .before .before .fill .ensures;
+        width = power;
+        maps = c .times-map .ensures;
+      },
+      giant-start _ _ _ _ power,
+    )
 
 place-of-requires : tie.Need-place-of-requires Inv-loop μ-loop
 place-of-requires c κs =
-    let walk = c .before .before .before .loop .inv in
-    (count-fits (walk .lawful) (walk .half), walk .held .chained)
+    let ground = c .before .before .before .loop .inv .0 in
+    (count-fits (ground .lawful) (ground .half), ground .held .chained)
 
 add-step : tie.Need-add-step Inv-loop μ-loop
-add-step c = omega (arith, walk-fits (turn (c .before) .loop .inv))
+add-step c =
+    let inv = turn (c .before) .loop .inv in
+    omega (arith, exponent-fits (inv .0) (inv .1))
 
 sub-step : tie.Need-sub-step Inv-loop μ-loop
-sub-step c = omega (arith, place-within (turn (c .before) .loop .inv) (c .before .place-of .ensures))
+sub-step c =
+    let inv = turn (c .before) .loop .inv in
+    omega (arith, place-within (inv .0) (inv .1) (c .before .place-of .ensures))
 
 add-e : tie.Need-add-e Inv-loop μ-loop
-add-e c = omega (arith, walk-fits (turn (c .before .before .before) .loop .inv))
+add-e c =
+    let inv = turn (c .before .before .before) .loop .inv in
+    omega (arith, exponent-fits (inv .0) (inv .1))
 
 loop-less : tie.Need-loop-less Inv-loop μ-loop
 loop-less c =
     let looked-up = c .before .before .before in
-    walk-less (turn looked-up .loop .inv) (looked-up .place-of .ensures) (c .before .before .if1 .left)
+    let inv = turn looked-up .loop .inv in
+    nearer (inv .0) (inv .1) (looked-up .place-of .ensures) (c .before .before .if1 .left)
 
 loop-again : tie.Need-loop-again Inv-loop μ-loop
 loop-again c =
     let looked-up = c .before .before .before in
-    walk-next (turn looked-up .loop .inv) (looked-up .place-of .ensures) (c .image .ensures) (c .before .before .if1 .left)
+    let inv = turn looked-up .loop .inv in
+    (inv .0, giant-more (inv .0) (inv .1) (looked-up .place-of .ensures) (c .image .ensures) (c .before .before .if1 .left))
 
 returns : tie.Need-returns Inv-loop μ-loop
-returns c = walk-found (turn (c .before) .loop .inv) (c .before .place-of .ensures) (c .if1 .taken)
+returns c =
+    let inv = turn (c .before) .loop .inv in
+    step-told (inv .0) (inv .1) (c .before .place-of .ensures) (c .if1 .taken)
 
 pub step-of-spec : {M : Type 1} → statement M
 step-of-spec =

@@ -53,10 +53,10 @@ place-of-spec =
     (λ c. omega (arith, low-fits (c .pre .0) (c .args .residue)))
     loop-holds
     (λ c. search needs)
+    (λ c. search needs)
     (λ c. omega (arith, c .before .loop .inv .within, start c .pre .0 .high))
     (λ c. omega (arith, c .before .loop .inv .within, start c .pre .0 .high))
     returns
-    (λ c. search needs)
     (λ c. omega (arith, c .before .before .before .loop .inv .within, start (c .before .before) .pre .0 .high))
     (λ c. omega (arith, c .before .before .before .loop .inv .within, start (c .before .before) .pre .0 .high))
     loop-less

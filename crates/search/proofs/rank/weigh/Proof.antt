@@ -1,9 +1,9 @@
 -- `rank::weigh` writes the t-values one after the other, and stops where they decide. The invariant: the first s numbers of the row are
--- written, and the last t-value is t(s - 1). The measure is what is left up to t(T). Assumes nothing.
-use mathlib.Core.Path.{_≡_, sym, ap, _∙_}
+-- written, the last t-value is t(s - 1), and the table has s - 1 coordinates. The measure is what is left up to t(T). Assumes nothing.
+use mathlib.Core.Path.{_≡_, refl, sym, ap, _∙_}
 use mathlib.Core.Bool.{true}
 use mathlib.Core.List.{List}
-use Prim.Native.Nat.{ℕ, _+_, _-_, _≤_, _<_}
+use Prim.Native.Nat.{ℕ, _+_, _-_, _^_, _≤_, _<_}
 use native.Mathlib.Nat.{add-sub-cancel}
 use native.Mathlib.Omega.{arith}
 use lib.ListN.{length, take, set, length-set}
@@ -12,7 +12,11 @@ use Rattle.definitions.specs.Generator.{accepted}
 use Rattle.definitions.specs.Net.{tValue}
 use Rattle.definitions.specs.Ranking.{longestRow, ranksFrom}
 use Rattle.fraction_laws.specs.WellFormed.{WellFormed}
-use Rattle.net_laws.specs.TValue.{tValue-first}
+use Rattle.number_laws.specs.Bounds.{lead-is}
+use Rattle.order_laws.specs.Accepted.{accepted-is}
+use Rattle.quotient_laws.specs.Plane.{tValue-linear}
+use Rattle.polynomial.specs.Modulus.{lawful-modulus}
+use Rattle.digit_rows.specs.Table.{Tabled}
 use Rattle.net.specs.Bound.{largestBound, Stop, stop-accepted}
 use Rattle.row_order.specs.Ranks.{valuesEnd}
 use Rattle.search.specs.Frame.{LawfulList, stateOf, Searching}
@@ -31,11 +35,15 @@ pub record Written (l : Selection) (p q : ℕ) (row : List ℕ) (value s : ℕ) 
   pub is : take s row ≡ take s (begun l p q)
   pub last : value ≡ tValue (l .degree) p q (s - 1)
 
+-- The table has s - 1 coordinates.
+abbrev HasCoordinates : Selection → ℕ → ℕ → List ℕ → ℕ → Type 0
+HasCoordinates l p q table s = Tabled p q (2 ^ l .degree) (l .degree) (s - 1) table
+
 abbrev Invariant : tie.InvT-loop
-Invariant p q out t f last row₀ m end powers value₀ s₀ row value s = Written (f .list) p q row value s
+Invariant p q out t f last row₀ m end table₀ value₀ s₀ row table value s = Written (f .list) p q row value s × HasCoordinates (f .list) p q table s
 
 abbrev measure : tie.MeasureT-loop
-measure p q out t f last row₀ m end powers value₀ s₀ row value s = end - s
+measure p q out t f last row₀ m end table₀ value₀ s₀ row table value s = end - s
 
 -- ---- what the call asked, once the place behind t(T) is known
 abbrev Wide : Type 0
@@ -65,24 +73,31 @@ end c = c .values-end .ensures
 stop : (c : Wide) → Stop (at c .args .f .list .degree) (at c .args .p) (at c .args .q) largestBound
 stop c = stop-accepted _ _ _ (omega (arith, lawful c .degree .low)) (formed c .degree-p) (formed c .nonzero) (formed c .smaller) (passes c)
 
--- ---- t(2), from t(1) = 0
-next-t-requires : tie.Need-next-t-requires Invariant measure
-next-t-requires c κs =
+-- ---- with coordinate 1: t(2) is 0, since the quotients are linear
+add-coordinate-requires : tie.Need-add-coordinate-requires Invariant measure
+add-coordinate-requires c κs =
     let w = c .before .before in
-    let first = sym (tValue-first _ _ (formed w .degree-p) (at w .args .q)) in
-    ((lawful w .degree, formed w .degree-p), (stop w, (c .before .powers .ensures, ((omega arith, omega arith), first))))
+    let h = lawful w .degree in
+    let modulus = lawful-modulus h (formed w .degree-p) (lead-is h) in
+    let begun = c .before .first-coordinate .ensures .table modulus (at w .args .q) (at w .args .f .list .degree) in
+    (modulus, (record { some = omega (arith, h .low); high = h .high; behind = omega arith; one-of = omega arith }, begun))
+
+plane : (c : Wide) → 0 ≡ tValue (at c .args .f .list .degree) (at c .args .p) (at c .args .q) 2
+plane c = sym (tValue-linear (formed c) .0 (accepted-is _ _ _ .0 (passes c) .linear))
 
 loop-holds : tie.Need-loop-holds Invariant measure
 loop-holds c =
     let w = c .before .before .before in
-    let a = at w .args in
-    record {
-      from = omega arith;
-      to = omega (arith, lawful w .top .low);
-      sized = simp length-set (sized w);
-      is = begun-first (a .f .list) (a .p) (a .q) (a .row .now) (sized w);
-      last = c .next-t .ensures;
-    }
+    let a = at w .args in (
+      record {
+        from = omega arith;
+        to = omega (arith, lawful w .top .low);
+        sized = simp length-set (sized w);
+        is = begun-first (a .f .list) (a .p) (a .q) (a .row .now) (sized w);
+        last = plane w;
+      },
+      rw (lead-is (lawful w .degree)) at (c .add-coordinate .ensures),
+    )
 
 -- ---- in the loop
 abbrev wide : tie.At-loop Invariant measure → Wide
@@ -90,23 +105,22 @@ wide c = c .before .before .before .before
 
 abbrev written : (c : tie.At-loop Invariant measure)
     → let a = at (wide c) .args in Written (a .f .list) (a .p) (a .q) (c .loop .row) (c .loop .value) (c .loop .s)
-written c = c .loop .inv
+written c = c .loop .inv .0
 
 inside : (c : tie.In-loop Invariant measure) → c .before .loop .s < valuesEnd (at (wide (c .before)) .args .f .list)
 inside c = omega (arith, c .loop-test .taken, end (wide (c .before)))
 
-next-t-requires-2 : tie.Need-next-t-requires-2 Invariant measure
-next-t-requires-2 c κs =
+next-t-requires : tie.Need-next-t-requires Invariant measure
+next-t-requires c κs =
     let l = c .before .before in
     let w = wide l in
-    let powers = l .before .before .before .powers .ensures in
     let i = inside (c .before) in
     let top = lawful w .top in
-    ((lawful w .degree, formed w .degree-p), (stop w, (powers, ((omega (arith, written l .from), omega (arith, top .high)), written l .last))))
+    ((lawful w .degree, formed w .degree-p), (stop w, (l .loop .inv .1, ((omega (arith, written l .from), omega (arith, top .high)), written l .last))))
 
 -- One t-value more.
 abbrev Turn : Type 0
-Turn = tie.After-next-t2 Invariant measure
+Turn = tie.After-next-t Invariant measure
 
 abbrev tested : Turn → tie.In-loop Invariant measure
 tested c = c .before .before
@@ -115,26 +129,26 @@ abbrev loop : Turn → tie.At-loop Invariant measure
 loop c = tested c .before
 
 abbrev row : Turn → List ℕ
-row c = set (loop c .loop .row) (loop c .loop .s) (c .next-t2 .result)
+row c = set (loop c .loop .row) (loop c .loop .s) (c .next-t .result)
 
 fits : (c : Turn) → loop c .loop .s < length (loop c .loop .row)
 fits c = omega (arith, inside (tested c), lawful (wide (loop c)) .top .high, written (loop c) .sized)
 
-more : (c : Turn) → let a = at (wide (loop c)) .args in Written (a .f .list) (a .p) (a .q) (row c) (c .next-t2 .result) (loop c .loop .s + 1)
+more : (c : Turn) → let a = at (wide (loop c)) .args in Written (a .f .list) (a .p) (a .q) (row c) (c .next-t .result) (loop c .loop .s + 1)
 more c =
     let l = loop c in
     let a = at (wide l) .args in
     let s = l .loop .s in
     let i = inside (tested c) in
     let known = written l in
-    let value = c .next-t2 .ensures in
+    let value = c .next-t .ensures .0 in
     let length-b = begun-length (a .f .list) (a .p) (a .q) (lawful (wide l) .top .low) in
     let at-s = value ∙ sym (begun-at (a .f .list) (a .p) (a .q) s (known .from) i) in
     record {
       from = omega (arith, known .from);
       to = omega arith;
       sized = simp length-set (known .sized);
-      is = take-next (l .loop .row) (begun (a .f .list) (a .p) (a .q)) s (c .next-t2 .result) (fits c) (omega arith) (known .is) at-s;
+      is = take-next (l .loop .row) (begun (a .f .list) (a .p) (a .q)) s (c .next-t .result) (fits c) (omega arith) (known .is) at-s;
       last = value ∙ ap (tValue (a .f .list .degree) (a .p) (a .q)) (sym (add-sub-cancel s 1));
     }
 
@@ -182,7 +196,9 @@ returns-2 c =
 
 -- ---- neither is known
 loop-again : tie.Need-loop-again Invariant measure
-loop-again c = more (high-turn (c .before .before))
+loop-again c =
+    let turn = high-turn (c .before .before) in
+    (more turn, rw (add-sub-cancel (loop turn .loop .s) 1) (turn .next-t .ensures .1))
 
 returns-3 : tie.Need-returns-3 Invariant measure
 returns-3 c =
@@ -203,10 +219,12 @@ weigh-spec =
     (λ c. omega (arith, sized c))
     (λ c. search needs)
     (λ c. search needs)
-    (λ c κs. (lawful c .degree, formed c .degree-p))
-    next-t-requires
+    (λ c κs. tt)
+    (λ c. omega (arith, lawful (c .before) .degree .high))
+    (λ c. omega (arith, lawful (c .before) .degree .high))
+    add-coordinate-requires
     loop-holds
-    next-t-requires-2
+    next-t-requires
     (λ c. search needs)
     (λ c. omega (arith, fits c))
     (λ c. omega (arith, inside (tested c)))

@@ -1,0 +1,1 @@
+// Laws of relations between digit rows and of the search for the lightest; no functions.

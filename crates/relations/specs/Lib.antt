@@ -1,0 +1,2 @@
+-- What the contracts of this crate and of those above cite.
+pub mod Slots
