@@ -8,8 +8,8 @@ use definitions::Judgement;
 use definitions::Refusal;
 use fractions::degrees;
 use fractions::quotients;
+use full_orders::primitive;
 use orders::floors;
-use orders::primitive;
 use orders::step;
 use polynomial::digits;
 

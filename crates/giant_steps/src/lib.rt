@@ -26,7 +26,7 @@ pub fn step_of(m: u32, p: u32, q: u32) -> u32
     let mut next = [0u32; BABY_STEPS];
     let mut value = [0u32; BABY_STEPS];
     chains::fill(count, q, p, lead, &mut first, &mut next, &mut value);
-    let factor = residues::pow_x(count, p, lead);
+    let factor = residues::pow_mod(2, count, p, lead);
     let map = maps::times_map(factor, p, lead);
     let mut giant = factor;
     let mut e = count;

@@ -3,7 +3,7 @@
 use mathlib.Core.Path.{_≡_, refl, sym, ap, _∙_}
 use mathlib.Core.Bool.{Bool, true, false}
 use mathlib.Core.List.{List}
-use Prim.Native.Nat.{ℕ, zero, suc, _+_, _*_, _/_, _^_, _≤_, _<_}
+use Prim.Native.Nat.{ℕ, zero, suc, _+_, _*_, _^_, _≤_, _<_}
 use native.Mathlib.Nat.{one-mul, mul-comm, mul-assoc, pow-suc}
 use native.Mathlib.Omega.{arith}
 use native.Mathlib.Decide.{decLe}
@@ -178,7 +178,7 @@ module _ {squares : Bool} {p lead first : ℕ} where
         go : (i : ℕ) → Dec (at .blocks ≤ i) → BlockOf (mapped squares p first) lead t i
         go i (no before) = at .right i (omega arith)
         go i (yes behind) =
-            let unit-low : lead ≤ 1 * 2 ^ (blockDigits * i) = omega (arith, at .is, pow-mono {i = blockDigits * at .blocks} {j = blockDigits * i} (omega arith)) in
-            tabled-beyond block unit-low
+            let larger = pow-mono {i = blockDigits * at .blocks} {j = blockDigits * i} (omega arith) in
+            tabled-beyond block (omega (arith, at .is, larger))
             (tabled-start (mapped squares p first) (mapped-additive h squares first) lead (2 ^ (blockDigits * i)) (i * block)
             (at .empty (i * block) (omega (arith, at .place))))

@@ -8,7 +8,7 @@ use native.Mathlib.Nat.{add-zero, add-assoc, mul-assoc, one-mul, zero-mul, mul-l
 use native.Mathlib.Omega.{arith}
 use native.Mathlib.Decide.{decLe}
 use lib.ListN.{getD}
-use lib.Bits.{bitXor, xor-shifted}
+use lib.Bits.{xor-shifted}
 use lib.Pow.{pow-pos}
 use Rattle.definitions.specs.Polynomial.{_⊕_}
 use Rattle.polynomial_laws.specs.Sum.{⊕-def, ⊕-comm}

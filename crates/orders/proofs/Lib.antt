@@ -1,4 +1,3 @@
 -- What the proofs about orders share.
-pub mod DivisorLoop
 pub mod DivisorTable
 pub mod Finder

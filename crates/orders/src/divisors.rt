@@ -1,6 +1,6 @@
 // The prime divisors of 2^m - 1, for each degree m that the library covers.
 ghost use mathlib.Core.Path.{_≡_};
-ghost use Prim.Native.Nat.{_<_};
+ghost use Prim.Native.Nat.{ℕ, _<_};
 ghost use lib.ListN.{getD};
 ghost use Rattle.number_laws.specs.Bounds.{LawfulDegree};
 ghost use Rattle.order_laws.specs.Table.{divisorsOf, places};
@@ -74,11 +74,18 @@ const DIVISORS: [u32; DEGREES * PLACES] = [
     257,
 ];
 
-// The i-th prime divisor of 2^m - 1; 0 behind the last.
-pub fn divisor(m: u32, i: usize) -> u32
+// The prime divisors of 2^m - 1; 0 behind the last. The table is copied once here, where each index into it would copy it again.
+pub fn divisors_of(m: u32) -> [u32; PLACES]
     requires { ⌜ LawfulDegree m ⌝ }
-    requires { ⌜ i < places ⌝ }
-    ensures { λ r. ⌜ r ≡ getD (divisorsOf m) i 0 ⌝ }
+    ensures { λ l. ⌜ ((i : ℕ) → i < places → getD l i 0 ≡ getD (divisorsOf m) i 0) ⌝ }
 {
-    DIVISORS[(m - limits::LEAST_DEGREE) as usize * PLACES + i]
+    let table = DIVISORS;
+    let first = (m - limits::LEAST_DEGREE) as usize * PLACES;
+    let mut found: [u32; PLACES] = [0; PLACES];
+    let mut i: usize = 0;
+    while i < PLACES {
+        found[i] = table[first + i];
+        i += 1;
+    }
+    found
 }

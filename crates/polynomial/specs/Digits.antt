@@ -1,10 +1,10 @@
--- Digits of words: the degree is what leading zeros leave of a word's digits, and a mask of one digit tells that digit.
+-- Digits of words: the degree is what leading zeros leave of a word's digits, a mask of one digit tells that digit, and halves are shifts.
 -- Assumes nothing.
 use mathlib.Core.Path.{_≡_, ap, _∙_}
 use Prim.Native.Nat.{ℕ, suc, _+_, _-_, _*_, _/_, _%_, _^_, _≤_, _<_}
 use native.Mathlib.Nat.{zero-mul, lt-of-not-le, div-eq-of-lt}
 use native.Mathlib.Omega.{arith}
-use lib.Pow.{pow-pos, pow-add}
+use lib.Pow.{pow-pos, pow-add, shr-shr}
 use lib.Bits.{bitAnd, and-high}
 use lib.Count.{leadingZeros, leading-top}
 use Rattle.definitions.specs.Polynomial.{degree}
@@ -33,3 +33,7 @@ pub above-mask : (m a : ℕ) → (bitAnd a (2 ^ m) ≡ 0 → ⊥) → 2 ^ m ≤ 
 above-mask m a some =
     let l : ¬ (a < 2 ^ m) = λ (k : a < 2 ^ m). some (mask m a ∙ rw (div-eq-of-lt k, zero-mul)) in
     omega arith
+
+-- ---- shifted by one digit more
+pub shifted-half : (a i j : ℕ) → i + 1 ≡ j → a / 2 ^ i / 2 ≡ a / 2 ^ j
+shifted-half a i j next = shr-shr a i 1 ∙ ap (λ n. a / 2 ^ n) next

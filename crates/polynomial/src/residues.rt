@@ -1,6 +1,6 @@
 // Residues modulo p, whose leading term is `lead`: polynomials of a smaller degree.
 ghost use mathlib.Core.Path.{_≡_};
-ghost use Prim.Native.Nat.{_*_, _^_, _<_};
+ghost use Prim.Native.Nat.{_*_, _<_};
 ghost use Rattle.definitions.specs.Polynomial.{prod, power, rem};
 ghost use Rattle.polynomial.specs.Modulus.{Modulus};
 use crate::digits;
@@ -38,24 +38,7 @@ pub fn mul_mod(a: u32, b: u32, p: u32, lead: u32) -> u32
     product
 }
 
-// x to the e: for each digit of e, the highest first, the power is squared, and multiplied by x where the digit is 1.
-pub fn pow_x(e: u32, p: u32, lead: u32) -> u32
-    requires { ⌜ Modulus p lead ⌝ }
-    ensures { λ r. ⌜ (r ≡ rem (2 ^ e) p) × (r < lead) ⌝ }
-{
-    let mut power: u32 = 1;
-    let mut i = 32 - u32::leading_zeros(e);
-    while i > 0 {
-        i -= 1;
-        power = mul_mod(power, power, p, lead);
-        if (e >> i) % 2 == 1 {
-            power = times_x(power, p, lead);
-        }
-    }
-    power
-}
-
-// q to the e, in the same way.
+// q to the e: for each digit of e, the highest first, the power is squared, and multiplied by q where the digit is 1.
 pub fn pow_mod(q: u32, e: u32, p: u32, lead: u32) -> u32
     requires { ⌜ Modulus p lead ⌝ }
     requires { ⌜ q < lead ⌝ }

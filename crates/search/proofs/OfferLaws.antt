@@ -1,7 +1,7 @@
 -- What becomes of a row that is offered: one that is not above the cut is passed over, one whose slot is behind the room is only counted; and of a
 -- pair that is met. Assumes nothing.
 use mathlib.Core.Path.{_≡_, refl, sym, ap, _∙_, subst}
-use mathlib.Core.Bool.{Bool, true, false}
+use mathlib.Core.Bool.{Bool, true, false, _&&_, and-eq-true-iff}
 use mathlib.Core.List.{List, [], _∷_}
 use Prim.Native.Nat.{ℕ, _+_}
 use native.Mathlib.Omega.{arith}
@@ -87,17 +87,19 @@ module _ (f : Frame) (last : List ℕ) (s : Search) (p q : ℕ) where
   not-accepted : accepted m p q ≡ false → s ≡ offers f last (metBegun (f .list) (pair p q ∷ [])) s
   not-accepted e = met-nothing (truth-false (acceptedAt m floor p q) (λ t. not-both (acceptedAt-accepted m floor p q t) e))
 
-  pub pair-not-primitive : primitive m p ≡ false → s ≡ offers f last (metBegun (f .list) (pair p q ∷ [])) s
-  pair-not-primitive e = not-accepted (truth-false (accepted m p q) (λ t. not-both (accepted-is m p q .0 t .primitive-p) e))
-
-  pub pair-not-coprime : coprimeStep m p q ≡ false → s ≡ offers f last (metBegun (f .list) (pair p q ∷ [])) s
-  pair-not-coprime e = not-accepted (truth-false (accepted m p q) (λ t. not-both (accepted-is m p q .0 t .coprime) e))
+  pub pair-without-orders : (primitive m p && coprimeStep m p q) ≡ false → s ≡ offers f last (metBegun (f .list) (pair p q ∷ [])) s
+  pair-without-orders e =
+      not-accepted (truth-false (accepted m p q) (λ t.
+      let k = accepted-is m p q .0 t in
+      not-both (and-eq-true-iff (primitive m p) (coprimeStep m p q) .1 (k .primitive-p, k .coprime)) e))
 
   pub pair-below-floor : reachesFloor m floor p q ≡ false → s ≡ offers f last (metBegun (f .list) (pair p q ∷ [])) s
   pair-below-floor e = met-nothing (truth-false (acceptedAt m floor p q) (λ t. not-both (acceptedAt-both m floor p q .0 t .1) e))
 
-  pub pair-accepted : primitive m p ≡ true → linearQuotients p q ≡ true → coprimeStep m p q ≡ true → accepted m p q ≡ true
-  pair-accepted a b c = accepted-is m p q .1 (record { primitive-p = a; linear = b; coprime = c })
+  pub pair-accepted : (primitive m p && coprimeStep m p q) ≡ true → linearQuotients p q ≡ true → accepted m p q ≡ true
+  pair-accepted orders linear =
+      let both = and-eq-true-iff (primitive m p) (coprimeStep m p q) .0 orders in
+      accepted-is m p q .1 (record { primitive-p = both .0; linear = linear; coprime = both .1 })
 
   pub pair-offered : {o : Search} → accepted m p q ≡ true → reachesFloor m floor p q ≡ true → o ≡ offer f last (rowIn f p q) s
       → o ≡ offers f last (metBegun (f .list) (pair p q ∷ [])) s

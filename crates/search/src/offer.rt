@@ -17,11 +17,10 @@ use crate::frame::Frame;
 use crate::frame::Tally;
 use crate::rank;
 use crate::rank::Standing;
+use full_orders::primitive::have_full_orders;
 use insertion::rows::insert_row;
 use limits::LONGEST_ROW;
 use orders::floors::reaches_floor;
-use orders::primitive::has_full_order;
-use orders::primitive::is_primitive;
 use row_order::compare::stands_after;
 use row_order::slot::find_slot;
 use row_order::width::width_of;
@@ -99,10 +98,7 @@ pub fn offer_pair(p: u32, q: u32, out: &mut [u32], t: Tally, f: Frame, last: &[u
 {
     let list = f.list;
     let m = list.degree;
-    if !is_primitive(m, p) {
-        return t;
-    }
-    if !has_full_order(m, p, q) {
+    if !have_full_orders(m, p, q) {
         return t;
     }
     if !reaches_floor(m, list.floor, p, q) {

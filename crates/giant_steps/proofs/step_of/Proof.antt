@@ -1,11 +1,14 @@
 -- `giant_steps::step_of` meets its contract. Invariant: the giant step at hand is x^e, and has not passed the last baby step; the measure is what is left
 -- up to the step. Assumes nothing.
-use mathlib.Core.Path.{_≡_}
-use Prim.Native.Nat.{_-_, _*_, _/_, _%_, _^_, _<_}
+use mathlib.Core.Path.{_≡_, ap, _∙_}
+use Prim.Native.Nat.{ℕ, _-_, _*_, _/_, _%_, _^_, _<_}
 use native.Mathlib.Omega.{arith}
+use lib.Pow.{pow-mono}
 use borrow.Author.Needs.{needs}
+use Rattle.definitions.specs.Polynomial.{rem}
 use Rattle.definitions.specs.Generator.{step}
 use Rattle.number_laws.specs.Bounds.{one-shl, lead-high}
+use Rattle.polynomial_laws.specs.Power.{power-of-x}
 use Rattle.polynomial.specs.Modulus.{Modulus, lawful-modulus}
 use Rattle.order_laws.specs.Giant.{GiantAt, giant-start}
 use Rattle.giant_steps.proofs.ChainLaws.{chained-none}
@@ -45,19 +48,21 @@ fill-requires c κs =
     let small : start .args .q < term .leading-term .result = omega (arith, start .pre .1 .0 .smaller, term .leading-term .ensures) in
     (modulus term, (small, (count-fits (start .pre .0) (half start), chained-none _)))
 
-pow-x-requires : tie.Need-pow-x-requires Inv-loop μ-loop
-pow-x-requires c κs = modulus (filled c)
+pow-mod-requires : tie.Need-pow-mod-requires Inv-loop μ-loop
+pow-mod-requires c κs =
+    let term = filled c in
+    (modulus term, omega (arith, term .leading-term .ensures, pow-mono {i = 2} {j = term .before .args .m} (term .before .pre .0 .low)))
 
 times-map-requires : tie.Need-times-map-requires Inv-loop μ-loop
 times-map-requires c κs =
     let term = filled (c .before) in
-    (modulus term, (omega (arith, lead-high (term .before .pre .0), term .leading-term .ensures), c .pow-x .ensures .1))
+    (modulus term, (omega (arith, lead-high (term .before .pre .0), term .leading-term .ensures), c .pow-mod .ensures .1))
 
 loop-holds : tie.Need-loop-holds Inv-loop μ-loop
 loop-holds c =
     let term = filled (c .before .before) in
     let pre = term .before .pre in
-    let power = c .before .pow-x .ensures .0 in (
+    let power = c .before .pow-mod .ensures .0 ∙ ap (λ (y : ℕ). rem y (term .before .args .p)) (power-of-x _) in (
       record {
         lawful = pre .0;
         formed = pre .1 .0;
@@ -117,7 +122,7 @@ step-of-spec =
     (λ c κs. search needs)
     (λ c. search needs)
     fill-requires
-    pow-x-requires
+    pow-mod-requires
     times-map-requires
     loop-holds
     place-of-requires

@@ -36,14 +36,14 @@ loop-again c =
     let at = c .before .before .before .before .before in
     let l = c .before .before .loop in
     let next = c .times-x in
-    adding-more (at .args .q) (modulus at) (one at) (l .i) (l .row) (l .table) (l .inv) (c .before .loop-test .taken) (next .result) (next .ensures .0)
+    adding-more (at .args .q) (modulus at) (one at) (l .i) (l .row) (l .table) (l .inv) (omega arith) (next .result) (next .ensures .0)
     (next .ensures .1)
 
 returns : tie.Need-returns Invariant measure
 returns c =
     let at = c .before .before .before .before in
     let l = c .before .loop in
-    tabled-more (at .args .q) (modulus at) (one at) (l .i) (l .row) (l .table) (l .inv) (c .loop-test .left)
+    tabled-more (at .args .q) (modulus at) (one at) (l .i) (l .row) (l .table) (l .inv) (omega arith)
 
 pub add-coordinate-spec : {M : Type 1} → statement M
 add-coordinate-spec =

@@ -145,8 +145,12 @@ module _ (t : ℕ) where
   abbrev ranges-start : Ended → RangesStart
   ranges-start c = c .before .before .before
 
+  full : (c : ranges-lts.Then3 ranges-calls ranges-at ranges.Post)
+      → let a = ranges-start (c .before) .args in c .before .search-below .result ≤ a .counted + a .digits + a .bound
+  full c = omega arith
+
   ranges-returns-2 : ranges-lts.Need-returns-2 ranges-calls ranges-at ranges.Post
-  ranges-returns-2 c = searched-closed (room (ranges-start (c .before)) .coordinate-low) (c .if3 .taken) (c .before .search-below .ensures)
+  ranges-returns-2 c = searched-closed (room (ranges-start (c .before)) .coordinate-low) (full c) (c .before .search-below .ensures)
 
   ranges-take-row-requires-2 : ranges-lts.Need-take-row-requires-2 ranges-calls ranges-at ranges.Post
   ranges-take-row-requires-2 c κs =

@@ -2,7 +2,6 @@
 -- the next digit. Assumes nothing.
 use Prim.Native.Nat.{_-_}
 use native.Mathlib.Omega.{arith}
-use borrow.Author.Needs.{needs}
 use Rattle.linear_maps.specs.Maps.{block}
 use Rattle.linear_maps.specs.Filling.{Block, block-start, block-room, block-positive, block-more, block-done}
 use Rattle.linear_maps.proofs.maps.fill_block.Statement.{statement}

@@ -3,7 +3,7 @@
 use native.Mathlib.Omega.{arith}
 use lib.Count.{leading-le}
 use borrow.Author.Needs.{needs}
-use Rattle.polynomial.proofs.ResidueLaws.{PowerAt, power-start, power-even, power-odd, power-end}
+use Rattle.polynomial.specs.Powers.{PowerAt, power-start, power-even, power-odd, power-end}
 use Rattle.polynomial.proofs.residues.pow_mod.Statement.{statement}
 use Rattle.polynomial.proofs.residues.pow_mod.Tie as tie
 

@@ -43,44 +43,49 @@ behind m i h z = le-unless (λ l. omega (arith, table-rule m h .each _ (listed (
 abbrev pub noneIsOne : ℕ → (ℕ → ℕ) → Bool
 noneIsOne m f = noneOf (λ e. eqb (f e) 1) (period m) (divisorsOf m)
 
--- The loop at place i: what the test says of the divisors from there on, it says of all.
-pub record Testing (m : ℕ) (f : ℕ → ℕ) (i : ℕ) : Type 0 where
+-- The loop over the divisors in l, at place i: what the test says of them from there on, it says of all.
+pub record Testing (m : ℕ) (f : ℕ → ℕ) (l : List ℕ) (i : ℕ) : Type 0 where
   pub lawful : LawfulDegree m
+  pub listed : (j : ℕ) → j < places → getD l j 0 ≡ getD (divisorsOf m) j 0
   pub place : i ≤ places
   pub left : noneOf (λ e. eqb (f e) 1) (period m) (drop i (divisorsOf m)) ≡ noneIsOne m f
 
-module _ {m : ℕ} {f : ℕ → ℕ} where
-  pub testing-start : LawfulDegree m → Testing m f 0
-  testing-start h = record { lawful = h; place = omega arith; left = refl }
+module _ {m : ℕ} {f : ℕ → ℕ} {l : List ℕ} where
+  pub testing-start : LawfulDegree m → ((j : ℕ) → j < places → getD l j 0 ≡ getD (divisorsOf m) j 0) → Testing m f l 0
+  testing-start h listed = record { lawful = h; listed = listed; place = omega arith; left = refl }
 
-  module _ {i : ℕ} (at : Testing m f i) where
+  module _ {i : ℕ} (at : Testing m f l i) where
     nothing-left : length (divisorsOf m) ≤ i → true ≡ noneIsOne m f
-    nothing-left l = sym (noneOf-nil (λ e. eqb (f e) 1) (period m)) ∙ rw (drop-of-length-le (divisorsOf m) {i = i} l) at (at .left)
-
-    pub testing-zero : {r : ℕ} → r ≡ getD (divisorsOf m) i 0 → r ≡ 0 → true ≡ noneIsOne m f
-    testing-zero e z = nothing-left (behind m i (at .lawful) (sym e ∙ z))
+    nothing-left k = sym (noneOf-nil (λ e. eqb (f e) 1) (period m)) ∙ rw (drop-of-length-le (divisorsOf m) {i = i} k) at (at .left)
 
     pub testing-end : places ≤ i → true ≡ noneIsOne m f
-    testing-end l = nothing-left (omega (arith, divisors-fit m (at .lawful)))
+    testing-end k = nothing-left (omega (arith, divisors-fit m (at .lawful)))
 
-    -- A divisor r at hand, and the value v of f at N / r.
-    module _ {r v : ℕ} (e : r ≡ getD (divisorsOf m) i 0) (n : r ≡ 0 → ⊥) (is : v ≡ f (period m / r)) where
-      split : drop i (divisorsOf m) ≡ r ∷ drop (suc i) (divisorsOf m)
-      split = go (decLe (length (divisorsOf m)) i)
-        where
-          go : Dec (length (divisorsOf m) ≤ i) → drop i (divisorsOf m) ≡ r ∷ drop (suc i) (divisorsOf m)
-          go (yes k) = absurd (n (e ∙ List·getD-eq-default (divisorsOf m) 0 k))
-          go (no k) = rw e (drop-cons (divisorsOf m) i 0 (omega arith))
+    module _ (more : i < places) where
+      pub testing-zero : getD l i 0 ≡ 0 → true ≡ noneIsOne m f
+      testing-zero z = nothing-left (behind m i (at .lawful) (sym (at .listed i more) ∙ z))
 
-      pub testing-one : v ≡ 1 → false ≡ noneIsOne m f
-      testing-one one =
-          sym (noneOf-hit (λ k. eqb (f k) 1) (period m) r (drop (suc i) (divisorsOf m)) (eq-eqb _ 1 (sym is ∙ one))) ∙ rw split at (at .left)
+      -- A divisor at hand, and the value v of f at N divided by it.
+      module _ {v : ℕ} (n : getD l i 0 ≡ 0 → ⊥) (is : v ≡ f (period m / getD l i 0)) where
+        split : drop i (divisorsOf m) ≡ getD l i 0 ∷ drop (suc i) (divisorsOf m)
+        split = go (decLe (length (divisorsOf m)) i)
+          where
+            go : Dec (length (divisorsOf m) ≤ i) → drop i (divisorsOf m) ≡ getD l i 0 ∷ drop (suc i) (divisorsOf m)
+            go (yes k) = absurd (n (at .listed i more ∙ List·getD-eq-default (divisorsOf m) 0 k))
+            go (no k) = rw (at .listed i more) (drop-cons (divisorsOf m) i 0 (omega arith))
 
-      pub testing-other : i < places → (v ≡ 1 → ⊥) → Testing m f (i + 1)
-      testing-other l other = record {
-        lawful = at .lawful;
-        place = omega arith;
-        left =
-            rw add-one
-            (sym (noneOf-miss (λ k. eqb (f k) 1) (period m) r (drop (suc i) (divisorsOf m)) (ne-eqb _ 1 (λ one. other (is ∙ one)))) ∙ rw split at (at .left));
-      }
+        pub testing-one : v ≡ 1 → false ≡ noneIsOne m f
+        testing-one one =
+            sym (noneOf-hit (λ k. eqb (f k) 1) (period m) (getD l i 0) (drop (suc i) (divisorsOf m)) (eq-eqb _ 1 (sym is ∙ one)))
+            ∙ rw split at (at .left)
+
+        pub testing-other : (v ≡ 1 → ⊥) → Testing m f l (i + 1)
+        testing-other other = record {
+          lawful = at .lawful;
+          listed = at .listed;
+          place = omega arith;
+          left =
+              rw add-one
+              (sym (noneOf-miss (λ k. eqb (f k) 1) (period m) (getD l i 0) (drop (suc i) (divisorsOf m)) (ne-eqb _ 1 (λ one. other (is ∙ one))))
+              ∙ rw split at (at .left));
+        }

@@ -1,0 +1,3 @@
+-- What the proofs about full orders share.
+pub mod DivisorLoop
+pub mod PowerLaws
