@@ -24,31 +24,35 @@ pub record Taking (m c n i low w : ℕ) : Type 0 where
   pub degree-high : m ≤ largestDegree
   pub room : n < 31
   pub least : w ≤ 31
+  pub some : 1 ≤ c
   pub coordinate : c < largestTop
   pub on : low + i + 1 < w
 
 module _ {m f c n i l h low w : ℕ} (r : Room m f c n i l h low w) where
   pub taking : low + i + f < w → Taking m c n i low w
   taking on = record {
-    digit = omega (arith, r .least, r .bound-low);
-    degree-high = r .degree-high;
-    room = omega (arith, r .share, r .degree-high, r .bound-low);
-    least = omega (arith, r .least, r .degree-high);
-    coordinate = r .coordinate-high;
-    on = omega (arith, r .bound-low);
+    digit = omega (arith, r .numbers .least, r .numbers .bound-low);
+    degree-high = r .numbers .degree-high;
+    room = omega (arith, r .share, r .numbers .degree-high, r .numbers .bound-low);
+    least = omega (arith, r .numbers .least, r .numbers .degree-high);
+    some = r .numbers .coordinate-low;
+    coordinate = r .numbers .coordinate-high;
+    on = omega (arith, r .numbers .bound-low);
   }
 
   pub room-next : {u : ℕ} → u ≤ w → i < h → low + i + f < w → Room m f c (n + 1) (i + 1) l h low u
   room-next less more on = record {
-    bound-low = r .bound-low;
-    bound-high = r .bound-high;
-    degree-high = r .degree-high;
-    coordinate-low = r .coordinate-low;
-    coordinate-high = r .coordinate-high;
-    least = omega (arith, r .least);
-    counted = omega (arith, r .counted);
-    rows-few = omega (arith, r .share, r .degree-high, r .bound-low, on);
-    begins = omega (arith, r .begins);
+    numbers = record {
+      bound-low = r .numbers .bound-low;
+      bound-high = r .numbers .bound-high;
+      degree-high = r .numbers .degree-high;
+      coordinate-low = r .numbers .coordinate-low;
+      coordinate-high = r .numbers .coordinate-high;
+      least = omega (arith, r .numbers .least);
+      counted = omega (arith, r .numbers .counted);
+      rows-few = omega (arith, r .share, r .numbers .degree-high, r .numbers .bound-low, on);
+      begins = omega (arith, r .numbers .begins);
+    };
     reaches = omega arith;
     ordered = r .ordered;
     ends = r .ends;
@@ -58,33 +62,27 @@ module _ {m f c n i l h low w : ℕ} (r : Room m f c n i l h low w) where
 
   pub room-behind : {u to : ℕ} → u ≤ w → low + i + f < u → to ≤ 32 → (2 ≤ c → to ≤ m + 1 + low + i - n - u) → Room m f c n i (i + 1) (i + 1 + to) low u
   room-behind less on most part = record {
-    bound-low = r .bound-low;
-    bound-high = r .bound-high;
-    degree-high = r .degree-high;
-    coordinate-low = r .coordinate-low;
-    coordinate-high = r .coordinate-high;
-    least = omega (arith, r .least);
-    counted = r .counted;
-    rows-few = r .rows-few;
-    begins = omega arith;
+    numbers = record {
+      bound-low = r .numbers .bound-low;
+      bound-high = r .numbers .bound-high;
+      degree-high = r .numbers .degree-high;
+      coordinate-low = r .numbers .coordinate-low;
+      coordinate-high = r .numbers .coordinate-high;
+      least = omega (arith, r .numbers .least);
+      counted = r .numbers .counted;
+      rows-few = r .numbers .rows-few;
+      begins = omega arith;
+    };
     reaches = omega arith;
     ordered = omega arith;
-    ends = omega (arith, r .least, r .degree-high);
+    ends = omega (arith, r .numbers .least, r .numbers .degree-high);
     share = omega (arith, r .share);
     wide = λ b. omega (arith, part b, r .share);
   }
 
   pub leaving : (h ≤ i) ⊎ (w ≤ low + i + f) → Leaving m f c n i l low w
   leaving closed = record {
-    bound-low = r .bound-low;
-    bound-high = r .bound-high;
-    degree-high = r .degree-high;
-    coordinate-low = r .coordinate-low;
-    coordinate-high = r .coordinate-high;
-    least = r .least;
-    counted = r .counted;
-    rows-few = r .rows-few;
-    begins = r .begins;
+    numbers = r .numbers;
     few = omega (arith, r .reaches, r .ends);
     closes = λ on. closes on closed;
     spare = λ b. omega (arith, r .wide b, r .reaches);
@@ -112,24 +110,26 @@ module _ {m f c n i l low w : ℕ} (r : Leaving m f c n i l low w) (two : 2 ≤ 
       record {
         two = two;
         spare = omega arith;
-        counted = omega (arith, r .counted);
-        least = omega (arith, r .least);
-        small = r .degree-high;
-        place = omega (arith, r .degree-high);
-        coordinate = r .coordinate-high;
+        counted = omega (arith, r .numbers .counted);
+        least = omega (arith, r .numbers .least);
+        small = r .numbers .degree-high;
+        place = omega (arith, r .numbers .degree-high);
+        coordinate = r .numbers .coordinate-high;
       }
 
   pub room-below : {to : ℕ} → to ≤ 32 → (2 ≤ c - 1 → to ≤ m + 1 + (low + l) - n - w) → Room m f (c - 1) n 0 0 to (low + l) w
   room-below most part = record {
-    bound-low = r .bound-low;
-    bound-high = r .bound-high;
-    degree-high = r .degree-high;
-    coordinate-low = omega (arith, two);
-    coordinate-high = omega (arith, deep .coordinate);
-    least = r .least;
-    counted = omega (arith, deep .counted);
-    rows-few = omega (arith, deep .place);
-    begins = omega arith;
+    numbers = record {
+      bound-low = r .numbers .bound-low;
+      bound-high = r .numbers .bound-high;
+      degree-high = r .numbers .degree-high;
+      coordinate-low = omega (arith, two);
+      coordinate-high = omega (arith, deep .coordinate);
+      least = r .numbers .least;
+      counted = omega (arith, deep .counted);
+      rows-few = omega (arith, deep .place);
+      begins = omega arith;
+    };
     reaches = omega arith;
     ordered = omega arith;
     ends = omega arith;

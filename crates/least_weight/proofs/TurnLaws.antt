@@ -143,7 +143,7 @@ withSlot mask v = bitXor mask (1 * 2 ^ place v % 2 ^ 64)
 abbrev pub rowAt : List ℕ → ℕ → ℕ → ℕ → ℕ
 rowAt table c i n = packedRow (getD table (c * largestDegree + i) 0) n
 
-module _ {table : List ℕ} {m c i n σ mask low w : ℕ} {b : List ℕ} (some : 1 ≤ c) (t : Taking m c n i low w) (path : Path table m c i n σ b mask) where
+module _ {table : List ℕ} {m c i n σ mask low w : ℕ} {b : List ℕ} (t : Taking m c n i low w) (path : Path table m c i n σ b mask) where
   abbrev row : ℕ
   row = rowAt table c i n
 
@@ -154,7 +154,7 @@ module _ {table : List ℕ} {m c i n σ mask low w : ℕ} {b : List ℕ} (some :
     row-is : row ≡ pack 32 (G c i) (i + total hs)
     row-is =
         packed-is (getD table (c * largestDegree + i) 0) n row-small (omega (arith, t .room))
-        ∙ ap₂ (pack 32) (agree c i some (omega arith) (t .digit)) (s .places)
+        ∙ ap₂ (pack 32) (agree c i (t .some) (omega arith) (t .digit)) (s .places)
 
     of-path : (u : ℕ) → Spanned (chosen mask (slot b)) 64 u → Sum (Packed G 32 64 c i hs) u
     of-path u k = spanned-sum (Packed G 32 64 c i hs) (chosen mask (slot b)) 64 (s .held .spans) 64 k
@@ -249,7 +249,7 @@ module _ {table : List ℕ} {m c i n σ mask low w : ℕ} {b : List ℕ} (some :
             take sc (subst (λ (i : ℕ). Found G f (suc c) i l hs low u r) e y)
 
         found : (G : ℕ → ℕ → ℕ) → Rows G table m c → (hs : List ℕ) → Taken G c i n σ b mask hs → Found G f c i l hs low w r
-        found G agree hs s = take-on G c hs some (row-scanned G agree hs s v reduced u scan) (x .found G agree hs (taken-more G agree hs s v reduced))
+        found G agree hs s = take-on G c hs (t .some) (row-scanned G agree hs s v reduced u scan) (x .found G agree hs (taken-more G agree hs s v reduced))
 
         same : (h : ℕ) → digitAt h mask ≡ 1 → slot z h ≡ slot b h
         same h one =

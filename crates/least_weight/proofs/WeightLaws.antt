@@ -47,15 +47,17 @@ module _ {table : List ℕ} {m f c w : ℕ} {b : List ℕ} where
 pub room-start : {m f c w to : ℕ} → 1 ≤ f → f ≤ largestBound → 1 ≤ c → c < largestTop → m ≤ largestDegree → w ≤ suc m → to ≤ 32 → (2 ≤ c → to ≤ m + 1 - w)
     → Room m f c 0 0 1 (1 + to) 0 w
 room-start a b some few small least most part = record {
-  bound-low = a;
-  bound-high = b;
-  degree-high = small;
-  coordinate-low = some;
-  coordinate-high = few;
-  least = least;
-  counted = omega arith;
-  rows-few = omega arith;
-  begins = omega arith;
+  numbers = record {
+    bound-low = a;
+    bound-high = b;
+    degree-high = small;
+    coordinate-low = some;
+    coordinate-high = few;
+    least = least;
+    counted = omega arith;
+    rows-few = omega arith;
+    begins = omega arith;
+  };
   reaches = omega arith;
   ordered = omega arith;
   ends = omega arith;

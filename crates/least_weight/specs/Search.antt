@@ -40,8 +40,8 @@ pub record Path (table : List ℕ) (m c i n σ : ℕ) (b : List ℕ) (mask : ℕ
   pub odd : σ % 2 ≡ 1
   pub sized : length b ≡ 64
 
--- What the numbers of a search keep: rows taken and digits left are m + 1 at most, however far the range goes.
-pub record Room (m f c n i l h low w : ℕ) : Type 0 where
+-- What the numbers of a search are within.
+pub record Numbers (m f c n i l low w : ℕ) : Type 0 where
   pub bound-low : 1 ≤ f
   pub bound-high : f ≤ largestBound
   pub degree-high : m ≤ largestDegree
@@ -51,6 +51,10 @@ pub record Room (m f c n i l h low w : ℕ) : Type 0 where
   pub counted : low + i ≤ n
   pub rows-few : n ≤ 64
   pub begins : l ≤ suc i
+
+-- What they keep: rows taken and digits left are m + 1 at most, however far the range goes.
+pub record Room (m f c n i l h low w : ℕ) : Type 0 where
+  pub numbers : Numbers m f c n i l low w
   pub reaches : i ≤ h
   pub ordered : l ≤ h
   pub ends : h ≤ 64
@@ -59,15 +63,7 @@ pub record Room (m f c n i l h low w : ℕ) : Type 0 where
 
 -- And where coordinate c is left.
 pub record Leaving (m f c n i l low w : ℕ) : Type 0 where
-  pub bound-low : 1 ≤ f
-  pub bound-high : f ≤ largestBound
-  pub degree-high : m ≤ largestDegree
-  pub coordinate-low : 1 ≤ c
-  pub coordinate-high : c < largestTop
-  pub least : w ≤ suc m
-  pub counted : low + i ≤ n
-  pub rows-few : n ≤ 64
-  pub begins : l ≤ suc i
+  pub numbers : Numbers m f c n i l low w
   pub few : i ≤ 64
   pub closes : low + l + f < w → l ≤ i
   pub spare : 2 ≤ c → n + w ≤ suc m + low + l

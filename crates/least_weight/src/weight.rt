@@ -3,7 +3,7 @@ use crate::ranges::search_ranges;
 use crate::ranges::width;
 use digit_rows::table::TABLE;
 use relations::vectors::SLOTS;
-ghost use Prim.Native.Nat.{suc, _^_, _<_, _≤_};
+ghost use Prim.Native.Nat.{suc, _<_, _≤_};
 ghost use Rattle.definitions.specs.Generator.{largestDegree};
 ghost use Rattle.definitions.specs.Ranking.{largestTop};
 ghost use Rattle.least_weight.specs.Search.{largestBound, Words, LeastFound};

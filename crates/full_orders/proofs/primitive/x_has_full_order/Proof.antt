@@ -11,6 +11,9 @@ Inv-loop m p squares power₀ i₀ power i = Squared m p i power
 abbrev μ-loop : tie.MeasureT-loop
 μ-loop m p squares power₀ i₀ power i = m - i
 
+loop-holds : tie.Need-loop-holds Inv-loop μ-loop
+loop-holds c = squared-start (c .pre .0) (c .pre .1 .0 .0)
+
 loop-again : tie.Need-loop-again Inv-loop μ-loop
 loop-again c =
     let at = c .before .before in
@@ -32,5 +35,4 @@ by-table c =
 pub x-has-full-order-spec : {M : Type 1} → statement M
 x-has-full-order-spec =
     tie.close
-    (tie.spec Inv-loop μ-loop (λ c. squared-start (c .pre .0) (c .pre .1 .0 .0)) (λ c κs. search needs) (λ c. search needs) (λ c. search needs)
-    loop-again other (λ c κs. search needs) by-table)
+    (tie.spec Inv-loop μ-loop loop-holds (λ c κs. search needs) (λ c. search needs) (λ c. search needs) loop-again other (λ c κs. search needs) by-table)

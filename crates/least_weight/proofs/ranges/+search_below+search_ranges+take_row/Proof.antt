@@ -150,7 +150,7 @@ module _ (t : ℕ) where
   full c = omega arith
 
   ranges-returns-2 : ranges-lts.Need-returns-2 ranges-calls ranges-at ranges.Post
-  ranges-returns-2 c = searched-closed (room (ranges-start (c .before)) .coordinate-low) (full c) (c .before .search-below .ensures)
+  ranges-returns-2 c = searched-closed (room (ranges-start (c .before)) .numbers .coordinate-low) (full c) (c .before .search-below .ensures)
 
   ranges-take-row-requires-2 : ranges-lts.Need-take-row-requires-2 ranges-calls ranges-at ranges.Post
   ranges-take-row-requires-2 c κs =
@@ -164,7 +164,7 @@ module _ (t : ℕ) where
   ranges-returns-3 : ranges-lts.Need-returns-3 ranges-calls ranges-at ranges.Post
   ranges-returns-3 c =
       let ended = c .before .before .before .before in
-      searched-behind (room (ranges-start ended) .coordinate-low) (ended .search-below .ensures) (c .take-row2 .ensures)
+      searched-behind (room (ranges-start ended) .numbers .coordinate-low) (ended .search-below .ensures) (c .take-row2 .ensures)
 
   -- ---- `take_row`
   abbrev RowStart : Type 0
@@ -187,8 +187,7 @@ module _ (t : ℕ) where
   row-reduce-requires : row-lts.Need-reduce-requires row-calls row-at row.Post
   row-reduce-requires c κs =
       let at = c .before .before in
-      let some = row-room at .coordinate-low in
-      (row-occupied some (taken at) (row-path at), row-apart some (taken at) (row-path at))
+      (row-occupied (taken at) (row-path at), row-apart (taken at) (row-path at))
 
   -- the row is reduced
   abbrev RowReduced : Type 0
@@ -202,20 +201,20 @@ module _ (t : ℕ) where
   reduced c = c .reduce .ensures
 
   leads : (c : RowReduced) → Leading (c .reduce .result)
-  leads c = let at = row-start c in row-leads (row-room at .coordinate-low) (taken at) (row-path at) (reduced c)
+  leads c = let at = row-start c in row-leads (taken at) (row-path at) (reduced c)
 
   row-search-ranges-requires : row-lts.Need-search-ranges-requires row-calls row-at row.Post
   row-search-ranges-requires c κs =
       let r = c .before .before .before in
       let at = row-start r in
       let room = room-next (row-room at) (c .before .scan .ensures .less) (at .pre .1 .1 .1 .0) (at .pre .1 .1 .1 .1) in
-      (omega (arith, taken at), (path-taken (row-room at .coordinate-low) (taken at) (row-path at) (reduced r), room))
+      (omega (arith, taken at), (path-taken (taken at) (row-path at) (reduced r), room))
 
   row-returns : row-lts.Need-returns row-calls row-at row.Post
   row-returns c =
       let r = c .before .before .before .before in
       let at = row-start r in
-      searched-taken (row-room at .coordinate-low) (taken at) (row-path at) (reduced r) (c .before .before .scan .ensures) (c .search-ranges .ensures)
+      searched-taken (taken at) (row-path at) (reduced r) (c .before .before .scan .ensures) (c .search-ranges .ensures)
 
 pub +search-below+search-ranges+take-row-spec : {M : Type 1} → statement M
 +search-below+search-ranges+take-row-spec =

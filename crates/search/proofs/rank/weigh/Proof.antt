@@ -1,6 +1,6 @@
 -- `rank::weigh` writes the t-values one after the other, and stops where they decide. The invariant: the first s numbers of the row are
 -- written, the last t-value is t(s - 1), and the table has s - 1 coordinates. The measure is what is left up to t(T). Assumes nothing.
-use mathlib.Core.Path.{_≡_, refl, sym, ap, _∙_}
+use mathlib.Core.Path.{_≡_, sym, ap, _∙_}
 use mathlib.Core.Bool.{true}
 use mathlib.Core.List.{List}
 use Prim.Native.Nat.{ℕ, _+_, _-_, _^_, _≤_, _<_}
