@@ -1,3 +1,2 @@
--- What an answer is as a struct for C, and that a row of a body is as a page has it. Assumes nothing.
+-- What an answer about a catalogue is as a struct for C. Assumes nothing.
 pub mod Results
-pub mod PageRow

@@ -34,7 +34,7 @@ use Rattle.definitions.specs.declared.Position.{Position}
 use Rattle.definitions.specs.declared.Position.the-variants.{Start, After}
 use Rattle.net_laws.specs.Smallest.{SmallestNet}
 use Rattle.number_laws.specs.Bounds.{LawfulDegree, LawfulTop}
-use Rattle.results.specs.Results.{value}
+use Rattle.answers.specs.Values.{value}
 use Rattle.demands.specs.Arguments.{second, third, sixth}
 use Rattle.demands.specs.Demand1.{Exact, LowestGiven, numberOf, formSituation, opening-exact, looking-empty, looking-exact, looking-lowest}
 use Rattle.demands.specs.Demand1.{ByTable, judging-table, paging-after-table, pointing-table}

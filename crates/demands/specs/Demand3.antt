@@ -18,7 +18,7 @@ use Rattle.definitions.specs.Calls.{pageRequest, pageRows, furtherRow, pageAnsw
 use Rattle.definitions.specs.declared.Selection.{Selection}
 use Rattle.definitions.specs.declared.Position.{Position}
 use Rattle.definitions.specs.declared.Position.the-variants.{Start}
-use Rattle.results.specs.Results.{value}
+use Rattle.answers.specs.Values.{value}
 use Rattle.page_laws.specs.Ascending.{Ascends}
 use Rattle.page_laws.specs.Rows.{rowsOf}
 use Rattle.ranking_laws.specs.Met.{ruleOf}

@@ -35,12 +35,14 @@ use Rattle.net_laws.specs.Smallest.{SmallestNet}
 use Rattle.answer_laws.specs.Unless.{unless-given}
 use Rattle.answer_laws.specs.Together.{answered-both}
 use Rattle.answer_laws.specs.Lent.{page-answered, points-answered, file-answered}
-use Rattle.results.specs.Results.{value, judgementResult, quotientsResult, tValueResult, pageResult, pointsResult}
-use Rattle.results.specs.declared.FenyurkaJudgement.{FenyurkaJudgement}
-use Rattle.results.specs.declared.FenyurkaQuotients.{FenyurkaQuotients}
-use Rattle.results.specs.declared.FenyurkaTValue.{FenyurkaTValue}
-use Rattle.results.specs.declared.FenyurkaPage.{FenyurkaPage}
-use Rattle.results.specs.declared.FenyurkaPoints.{FenyurkaPoints}
+use Rattle.answers.specs.Values.{value}
+use Rattle.pair_results.specs.Results.{judgementResult, quotientsResult, tValueResult}
+use Rattle.pair_results.specs.declared.FenyurkaJudgement.{FenyurkaJudgement}
+use Rattle.pair_results.specs.declared.FenyurkaQuotients.{FenyurkaQuotients}
+use Rattle.pair_results.specs.declared.FenyurkaTValue.{FenyurkaTValue}
+use Rattle.slice_results.specs.Results.{pageResult, pointsResult}
+use Rattle.slice_results.specs.declared.FenyurkaPage.{FenyurkaPage}
+use Rattle.slice_results.specs.declared.FenyurkaPoints.{FenyurkaPoints}
 use Rattle.catalogue_results.specs.Results.{fileResult}
 use Rattle.catalogue_results.specs.declared.FenyurkaFile.{FenyurkaFile}
 use Rattle.interface.specs.Requests.{listOf, pageOf}

@@ -22,7 +22,7 @@ use Rattle.answer_laws.specs.Unless.{passes, at-end, none-append, here, decides
 use Rattle.answer_laws.specs.Lent.{points-given}
 use Rattle.order_laws.specs.Words.{length-words, words-append, words-once}
 use Rattle.page_laws.specs.Rows.{join-last}
-use Rattle.results.specs.Results.{value}
+use Rattle.answers.specs.Values.{value}
 use Rattle.slice_laws.specs.Over.{over-front}
 use Rattle.demands.specs.Demand2.{Conditions, judging-passes, is-accepted}
 

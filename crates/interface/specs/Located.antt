@@ -10,7 +10,7 @@ use Rattle.definitions.specs.Catalogue.{lookupNumbers, lookupPart}
 use Rattle.catalogue.specs.declared.seek.Located.{Located}
 use Rattle.catalogue.specs.declared.seek.Located.the-variants.{At, Missing}
 use Rattle.catalogue.specs.Seek as seek
-use Rattle.results.specs.Results.{value}
+use Rattle.answers.specs.Values.{value}
 use Rattle.catalogue_results.specs.Results.{bodyResult}
 use Rattle.catalogue_results.specs.declared.FenyurkaBody.{FenyurkaBody}
 

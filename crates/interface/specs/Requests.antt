@@ -9,8 +9,8 @@ use Rattle.definitions.specs.Catalogue.{nextRow, nextPlace}
 use Rattle.definitions.specs.declared.Position.{Position}
 use Rattle.definitions.specs.declared.Selection.{Selection}
 use Rattle.definitions.specs.declared.PageRequest.{PageRequest}
-use Rattle.catalogue_results.specs.Results.{rowResult}
-use Rattle.catalogue_results.specs.declared.FenyurkaRow.{FenyurkaRow}
+use Rattle.row_results.specs.Results.{rowResult}
+use Rattle.row_results.specs.declared.FenyurkaRow.{FenyurkaRow}
 use Rattle.interface.specs.declared.FenyurkaList.{FenyurkaList}
 
 -- Whether C means a list whose rows have Δ: C's truth.

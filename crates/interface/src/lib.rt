@@ -7,7 +7,8 @@ ghost use Rattle.definitions.specs.Answers.{openingValues, fileValues};
 ghost use Rattle.definitions.specs.Calls.{judgement, quotientTest, uniformity, counted, gapSum, pageAnswer, pageSlice, pointsAnswer, pointsSlice};
 ghost use Rattle.definitions.specs.Catalogue.{opening};
 ghost use Rattle.definitions.specs.Writing.{fileAnswer, fileBuffer};
-ghost use Rattle.results.specs.Results.{judgementResult, quotientsResult, tValueResult, gapsResult, pageResult, pointsResult};
+ghost use Rattle.pair_results.specs.Results.{judgementResult, quotientsResult, tValueResult, gapsResult};
+ghost use Rattle.slice_results.specs.Results.{pageResult, pointsResult};
 ghost use Rattle.catalogue_results.specs.Results.{catalogueResult, fileResult};
 ghost use Rattle.interface.specs.Requests.{pageOf, rowAtPlace};
 ghost use Rattle.interface.specs.Located.{located};
@@ -15,16 +16,16 @@ use catalogue::seek;
 use catalogue_results::FenyurkaBody;
 use catalogue_results::FenyurkaCatalogue;
 use catalogue_results::FenyurkaFile;
-use catalogue_results::FenyurkaRow;
 use definitions::PageRequest;
 use definitions::Position;
 use definitions::Selection;
-use results::FenyurkaGaps;
-use results::FenyurkaJudgement;
-use results::FenyurkaPage;
-use results::FenyurkaPoints;
-use results::FenyurkaQuotients;
-use results::FenyurkaTValue;
+use pair_results::FenyurkaGaps;
+use pair_results::FenyurkaJudgement;
+use pair_results::FenyurkaQuotients;
+use pair_results::FenyurkaTValue;
+use row_results::FenyurkaRow;
+use slice_results::FenyurkaPage;
+use slice_results::FenyurkaPoints;
 
 // Which ranked list is meant: the degree, the top dimension, the floor, and whether its rows have Δ: 0 where not, any other number where so.
 #[repr(C)]
@@ -53,7 +54,7 @@ fn page_request(list: FenyurkaList, position: Position) -> PageRequest
 pub extern "C" fn fenyurka_judge(degree: u32, floor: u32, p: u32, q: u32) -> FenyurkaJudgement
     ensures { λ r. ⌜ r ≡ judgementResult (judgementValues (judgement degree floor p q)) ⌝ }
 {
-    results::judgement(generator::judge(degree, floor, p, q))
+    pair_results::judgement(generator::judge(degree, floor, p, q))
 }
 
 // How bad a pair's quotients are.
@@ -61,7 +62,7 @@ pub extern "C" fn fenyurka_judge(degree: u32, floor: u32, p: u32, q: u32) -> Fen
 pub extern "C" fn fenyurka_quotients(degree: u32, p: u32, q: u32) -> FenyurkaQuotients
     ensures { λ r. ⌜ r ≡ quotientsResult (quotientTestValues (quotientTest degree p q)) ⌝ }
 {
-    results::quotients(quotient_test::test_quotients(degree, p, q))
+    pair_results::quotients(quotient_test::test_quotients(degree, p, q))
 }
 
 // The t-value of a pair in one dimension.
@@ -69,7 +70,7 @@ pub extern "C" fn fenyurka_quotients(degree: u32, p: u32, q: u32) -> FenyurkaQuo
 pub extern "C" fn fenyurka_t_value(degree: u32, p: u32, q: u32, dimension: u32) -> FenyurkaTValue
     ensures { λ r. ⌜ r ≡ tValueResult (uniformityValues (uniformity degree p q dimension)) ⌝ }
 {
-    results::t_value(net::t_value(degree, p, q, dimension))
+    pair_results::t_value(net::t_value(degree, p, q, dimension))
 }
 
 // The same by the plain counter, for degrees 2 to 8.
@@ -82,7 +83,7 @@ pub extern "C" fn fenyurka_count_t_value(
 ) -> FenyurkaTValue
     ensures { λ r. ⌜ r ≡ tValueResult (uniformityValues (counted degree p q dimension)) ⌝ }
 {
-    results::t_value(counter::count_t_value(degree, p, q, dimension))
+    pair_results::t_value(counter::count_t_value(degree, p, q, dimension))
 }
 
 // The sum of resolution gaps of a pair.
@@ -90,7 +91,7 @@ pub extern "C" fn fenyurka_count_t_value(
 pub extern "C" fn fenyurka_sum_of_gaps(degree: u32, p: u32, q: u32) -> FenyurkaGaps
     ensures { λ r. ⌜ r ≡ gapsResult (gapSumValues (gapSum degree p q)) ⌝ }
 {
-    results::gaps(gaps::sum_of_gaps(degree, p, q))
+    pair_results::gaps(gaps::sum_of_gaps(degree, p, q))
 }
 
 // The first rows of a ranked list: how many, and whether a further row exists.
@@ -99,7 +100,7 @@ pub extern "C" fn fenyurka_first_page(list: FenyurkaList, rows: &mut [u32]) -> F
     ensures { λ r. ⌜ r ≡ pageResult (pageValues (pageAnswer (pageOf list Position.Start) (now (rows .entry)))) ⌝ }
     ensures { λ r. ⌜ now (rows .exit) ≡ pageSlice (pageOf list Position.Start) (now (rows .entry)) ⌝ }
 {
-    results::page(ranking::page(page_request(list, Position::Start), rows))
+    slice_results::page(ranking::page(page_request(list, Position::Start), rows))
 }
 
 // The same for the rows after a pair.
@@ -113,7 +114,7 @@ pub extern "C" fn fenyurka_page_after(
     ensures { λ r. ⌜ r ≡ pageResult (pageValues (pageAnswer (pageOf list (Position.After p q)) (now (rows .entry)))) ⌝ }
     ensures { λ r. ⌜ now (rows .exit) ≡ pageSlice (pageOf list (Position.After p q)) (now (rows .entry)) ⌝ }
 {
-    results::page(ranking::page(page_request(list, Position::After(p, q)), rows))
+    slice_results::page(ranking::page(page_request(list, Position::After(p, q)), rows))
 }
 
 // Words of a pair's period, the step at least the floor, and how many were written.
@@ -129,7 +130,7 @@ pub extern "C" fn fenyurka_points(
     ensures { λ r. ⌜ r ≡ pointsResult (pointsValues (pointsAnswer degree floor p q first (now (words .entry)))) ⌝ }
     ensures { λ r. ⌜ now (words .exit) ≡ pointsSlice degree floor p q first (now (words .entry)) ⌝ }
 {
-    results::points(points::points(degree, floor, p, q, first, words))
+    slice_results::points(points::points(degree, floor, p, q, first, words))
 }
 
 // How many degrees a catalogue has.
@@ -158,7 +159,7 @@ pub extern "C" fn fenyurka_row(list: FenyurkaList, body: &[u8], place: usize) ->
     let gaps = list.gaps != 0;
     let next = catalogue_rows::place_behind(body, degree, top, gaps, place);
     let row = catalogue_rows::row_at(body, degree, top, gaps, place);
-    catalogue_results::row(row, top, gaps, next)
+    row_results::row(row, top, gaps, next)
 }
 
 // Writes the catalogue that entries ask for, degree, T, degree, T, .., with T + 16 for rows with Δ, each list at the floor, and says how many bytes it

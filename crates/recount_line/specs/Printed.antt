@@ -24,8 +24,8 @@ use Rattle.line.specs.LongLine.{numberBytes, line-cut}
 use Rattle.decimal_text.specs.Decimal.{ten-digits}
 use Rattle.text.specs.Lines.{longLine, long-length}
 use Rattle.listing.specs.Texts.{refused-short}
-use Rattle.results.specs.Results.{tValueResult}
-use Rattle.results.specs.declared.FenyurkaTValue.{FenyurkaTValue}
+use Rattle.pair_results.specs.Results.{tValueResult}
+use Rattle.pair_results.specs.declared.FenyurkaTValue.{FenyurkaTValue}
 
 -- ---- by the numbers of the line
 

@@ -31,11 +31,11 @@ fn put_pair(out: &mut [u8], at: usize, degree: u32, p: u32, q: u32, dimension: u
     ensures { λ r. ⌜ r ≡ behind at (pairText degree p q dimension) (now (out .entry)) ⌝ }
     ensures { λ _. ⌜ now (out .exit) ≡ placed at (pairText degree p q dimension) (now (out .entry)) ⌝ }
 {
-    let count = results::t_value(counter::count_t_value(degree, p, q, dimension));
+    let count = pair_results::t_value(counter::count_t_value(degree, p, q, dimension));
     if count.refusal != 0 {
         return listing::put_refused(out, at, count.refusal);
     }
-    let quick = results::t_value(net::t_value(degree, p, q, dimension));
+    let quick = pair_results::t_value(net::t_value(degree, p, q, dimension));
     put_both(out, at, quick.t, count.t)
 }
 

@@ -11,7 +11,7 @@
 use definitions::Position;
 use definitions::Selection;
 use libc::STDOUT_FILENO;
-use results::FenyurkaPage;
+use slice_results::FenyurkaPage;
 
 // The kinds of calls.
 const JUDGE: u32 = 1;
@@ -86,12 +86,12 @@ fn show_first(kind: u32, slice: &[u32; PIECE], n: usize, before: u64) -> u64 {
 }
 
 fn judge(asked: &[u32; 6]) {
-    let answer = results::judgement(generator::judge(asked[2], NO_FLOOR, asked[3], asked[4]));
+    let answer = pair_results::judgement(generator::judge(asked[2], NO_FLOOR, asked[3], asked[4]));
     print_answer(b" step ", answer.refusal, answer.step as usize);
 }
 
 fn t_value(asked: &[u32; 6]) {
-    let answer = results::t_value(net::t_value(asked[2], asked[3], asked[4], asked[5]));
+    let answer = pair_results::t_value(net::t_value(asked[2], asked[3], asked[4], asked[5]));
     print_answer(b" is ", answer.refusal, answer.t as usize);
 }
 
@@ -113,12 +113,12 @@ fn page(position: Position, slice: &mut [u32]) {
         floor: NO_FLOOR,
         gaps: false,
     };
-    print_page(results::page(ranking::page(ranking::request(list, position), slice)));
+    print_page(slice_results::page(ranking::page(ranking::request(list, position), slice)));
 }
 
 // The answer, and how many words were written.
 fn points(asked: &[u32; 6], slice: &mut [u32]) -> usize {
-    let answer = results::points(points::points(
+    let answer = slice_results::points(points::points(
         asked[2],
         NO_FLOOR,
         asked[3],

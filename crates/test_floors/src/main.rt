@@ -35,7 +35,7 @@ fn print_count(count: usize) {
 }
 
 fn judge(m: u32, floor: u32, p: u32, q: u32) {
-    let answer = results::judgement(generator::judge(m, floor, p, q));
+    let answer = pair_results::judgement(generator::judge(m, floor, p, q));
     print(b" judge ", answer.refusal);
     print(b" ", answer.quotient_degree);
     print(b" ", answer.step);
@@ -43,21 +43,21 @@ fn judge(m: u32, floor: u32, p: u32, q: u32) {
 
 fn page(word: &[u8], list: Selection, position: Position) {
     let mut rows = [0u32; ROW_ROOM];
-    let answer = results::page(ranking::page(ranking::request(list, position), &mut rows));
+    let answer = slice_results::page(ranking::page(ranking::request(list, position), &mut rows));
     print(word, answer.refusal);
     print(b" ", answer.quotient_degree);
     print_count(answer.count);
 }
 
 fn short_page(word: &[u8], list: Selection, position: Position) {
-    let answer = results::page(ranking::page(ranking::request(list, position), &mut []));
+    let answer = slice_results::page(ranking::page(ranking::request(list, position), &mut []));
     print(word, answer.refusal);
     print(b" ", answer.quotient_degree);
 }
 
 fn points(m: u32, floor: u32, p: u32, q: u32, first: u32) {
     let mut words = [0u32; WORD_ROOM];
-    let answer = results::points(points::points(m, floor, p, q, first, &mut words));
+    let answer = slice_results::points(points::points(m, floor, p, q, first, &mut words));
     print(b" points ", answer.refusal);
     print(b" ", answer.quotient_degree);
     print_count(answer.count);

@@ -35,7 +35,7 @@ fn print_slice(slice: &[u32]) {
 }
 
 fn page(list: Selection, position: Position, slice: &mut [u32]) {
-    let answer = results::page(ranking::page(ranking::request(list, position), slice));
+    let answer = slice_results::page(ranking::page(ranking::request(list, position), slice));
     print(b" page ", answer.refusal as u64);
     print(b" ", answer.quotient_degree as u64);
     print(b" ", answer.count as u64);

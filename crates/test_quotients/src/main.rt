@@ -24,14 +24,14 @@ fn print(word: &[u8], number: u32) {
 }
 
 fn test(m: u32, p: u32, q: u32) {
-    let answer = results::quotients(quotient_test::test_quotients(m, p, q));
+    let answer = pair_results::quotients(quotient_test::test_quotients(m, p, q));
     print(b" test ", answer.refusal);
     print(b" ", answer.quotient_degree);
     print(b" ", answer.common_degree);
 }
 
 fn judge(m: u32, p: u32, q: u32) {
-    let answer = results::judgement(generator::judge(m, NO_FLOOR, p, q));
+    let answer = pair_results::judgement(generator::judge(m, NO_FLOOR, p, q));
     print(b" judge ", answer.refusal);
     print(b" ", answer.quotient_degree);
     print(b" ", answer.step);
@@ -44,7 +44,7 @@ fn page(m: u32, p: u32, q: u32) {
         floor: NO_FLOOR,
         gaps: false,
     };
-    let answer = results::page(ranking::page(
+    let answer = slice_results::page(ranking::page(
         ranking::request(list, Position::After(p, q)),
         &mut [],
     ));
@@ -53,7 +53,7 @@ fn page(m: u32, p: u32, q: u32) {
 }
 
 fn points(m: u32, p: u32, q: u32) {
-    let answer = results::points(points::points(m, NO_FLOOR, p, q, 0, &mut []));
+    let answer = slice_results::points(points::points(m, NO_FLOOR, p, q, 0, &mut []));
     print(b" points ", answer.refusal);
     print(b" ", answer.quotient_degree);
 }

@@ -43,7 +43,7 @@ fn polynomial(numbers: &[u32], from: usize, to: usize) -> u32
 fn print_t_values(m: u32, p: u32, q: u32) {
     let mut s = 3;
     while s <= 8 {
-        print_number(results::t_value(net::t_value(m, p, q, s)).t);
+        print_number(pair_results::t_value(net::t_value(m, p, q, s)).t);
         s += 1;
     }
 }
@@ -53,7 +53,7 @@ fn print_pair(m: u32, p: u32, q: u32) {
     print_number(m);
     print_number(p);
     print_number(q);
-    let judgement = results::judgement(generator::judge(m, NO_FLOOR, p, q));
+    let judgement = pair_results::judgement(generator::judge(m, NO_FLOOR, p, q));
     print_number(judgement.refusal);
     print_number(judgement.step);
     print_t_values(m, p, q);

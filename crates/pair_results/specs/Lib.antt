@@ -1,0 +1,2 @@
+-- What an answer about a pair is as a struct for C. Assumes nothing.
+pub mod Results

@@ -1,2 +1,0 @@
--- What an answer is as a struct for C. Assumes nothing.
-pub mod Results
