@@ -14,7 +14,7 @@ use catalogue_bytes::sizes;
 use catalogue_numbers::write_bytes;
 use catalogue_numbers::write_number;
 use definitions::Selection;
-use row_order::width::width_of;
+use row_places::width_of;
 
 // The row whose numbers stand at a place of a slice: p without its leading term, q and the step, then the numbers that rank it.
 fn write_row(file: &mut [u8], at: usize, list: Selection, rows: &[u32], from: usize)

@@ -10,7 +10,7 @@ use Rattle.definitions.specs.Writing.{entriesOf, rankedFile, entering, fileOutp
 use Rattle.definitions.specs.declared.Selection.{Selection}
 use Rattle.definitions.specs.declared.Refusal.{Refusal}
 use Rattle.answer_laws.specs.Unless.{Decides, here, later, decides-none, Outcome, is-refused, is-given, outcome, unless-refused, unless-given}
-use Rattle.listing.specs.Texts.{refusedRoom, refused-short}
+use Rattle.list_lines.specs.Texts.{refusedRoom, refused-short}
 use Rattle.writing_laws.specs.RankedFile.{entering-lawful}
 use Rattle.writing_laws.specs.Longest.{longestFile, file-longest}
 use Rattle.catalogue_line.specs.Written.{tests, said, output-is, errors-are}

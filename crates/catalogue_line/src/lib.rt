@@ -6,7 +6,7 @@ ghost use lib.ListN.{length};
 ghost use Rattle.definitions.specs.Number.{over};
 ghost use Rattle.definitions.specs.Listing.{refusedText};
 ghost use Rattle.definitions.specs.Writing.{fileNumbers, fileOutput, fileErrors};
-ghost use Rattle.listing.specs.Texts.{refusedRoom};
+ghost use Rattle.list_lines.specs.Texts.{refusedRoom};
 ghost use Rattle.writing_laws.specs.Longest.{longestFile};
 use definitions::FileAnswer;
 
@@ -33,7 +33,7 @@ fn refuse(text: &mut [u8], number: u32) -> Output
     ensures { λ r. ⌜ r ≡ record { file = 0; text = length (refusedText number) } ⌝ }
     ensures { λ _. ⌜ now (text .exit) ≡ over 0 (refusedText number) (now (text .entry)) ⌝ }
 {
-    let bytes = listing::put_refused(text, 0, number);
+    let bytes = list_lines::put_refused(text, 0, number);
     Output {
         file: 0,
         text: bytes,

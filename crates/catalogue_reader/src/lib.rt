@@ -1,5 +1,5 @@
 // Reading a body row by row, from the degree that a reader is opened with to the end of its body.
-pub mod opening;
+pub mod part;
 
 use definitions::NextRow;
 use definitions::Reader;
@@ -12,13 +12,13 @@ pub fn reader<'a>(file: &'a [u8], degree: u32) -> Reader<'a>
         × (r .degree ≡ degree) × (r .top ≡ readerTop (now (file .entry)) degree)
         × (r .gaps ≡ readerGaps (now (file .entry)) degree) × (r .place ≡ 0) ⌝ }
 {
-    let found = opening::opened(file, degree);
+    let found = catalogue_opening::opened(file, degree);
     let refusal = found.refusal;
     let offset = found.offset;
     let size = found.size;
     let top = found.top;
     let gaps = found.gaps;
-    let body = opening::cut(file, offset, size);
+    let body = part::cut(file, offset, size);
     Reader {
         refusal,
         body,

@@ -13,7 +13,7 @@ pub fn row_at(body: &[u8], degree: u32, top: u32, gaps: bool, place: usize) -> N
     if !rows::at_row(body, degree, top, gaps, place) {
         return NextRow::End;
     }
-    NextRow::Found(rows::decode(body, degree, top, gaps, place))
+    NextRow::Found(row_reading::decode(body, degree, top, gaps, place))
 }
 
 // The place behind the row at a place; at the end it stays.

@@ -8,7 +8,7 @@ ghost use Rattle.cursor.specs.Left.{startOf, OnList, Handed};
 use definitions::Position;
 use definitions::Selection;
 use page_rows::serve;
-use row_order::width::width_of;
+use row_places::width_of;
 
 // Which list is read, and the position behind the rows that were handed out.
 pub struct Cursor {

@@ -6,7 +6,6 @@ ghost use Rattle.generator.specs.Judging.{pairJudgement, pairVerdict, Ch
 use crate::common_divisor;
 use definitions::Judgement;
 use definitions::Refusal;
-use fractions::degrees;
 use fractions::quotients;
 use full_orders::primitive;
 use orders::floors;
@@ -48,7 +47,7 @@ fn check_polynomials(m: u32, p: u32, q: u32) -> Verdict
         return Verdict::Refused(Refusal::NotPrimitive);
     }
     if !quotients::linear_quotients(p, q, digits::leading_term(m)) {
-        let degrees = degrees::quotient_degrees(p, q);
+        let degrees = quotient_degrees::quotient_degrees(p, q);
         return Verdict::Refused(Refusal::QuotientNotLinear(degrees.quotient));
     }
     Verdict::Passed

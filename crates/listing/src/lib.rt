@@ -4,29 +4,15 @@ ghost use mathlib.Core.Path.{_≡_};
 ghost use Rattle.definitions.specs.Listing.{decimal, headerText, rowText, pageText, totalText, refusedText, readLine};
 ghost use Rattle.slice_laws.specs.Place.{placed, behind};
 use definitions::Line;
-use text::lines::put_line;
-use text::lines::put_long_line;
-
-// What is asked where the line does not say it; T and the floor as in document 02.
-const DEFAULT_TOP: u32 = 8;
-
-const DEFAULT_SIZE: u32 = 50;
-
-const DEFAULT_FLOOR: u32 = 32;
 
 // The largest page size.
 pub const LARGEST_SIZE: u32 = 1000;
 
-// The line that is asked with; what follows a newline is not read. The numbers that the line has take the place of the first defaults; a degree
-// has no default, as a line has at least one number.
+// The line that is asked with, and the defaults for what it does not say; what follows a newline is not read.
 pub fn read_line(input: &[u8]) -> Line
     ensures { λ r. ⌜ r ≡ readLine (now (input .entry)) ⌝ }
 {
-    let mut asked = [0, DEFAULT_TOP, DEFAULT_SIZE, DEFAULT_FLOOR];
-    if line::read_numbers(input, &mut asked) == 0 {
-        return Line::Unreadable;
-    }
-    Line::Asked(asked[0], asked[1], asked[2], asked[3])
+    asked_line::read_line(input)
 }
 
 // The decimal digits of n.
@@ -42,7 +28,7 @@ pub fn put_header(out: &mut [u8], at: usize, degree: u32, top: u32) -> usize
     ensures { λ r. ⌜ r ≡ behind at (headerText degree top) (now (out .entry)) ⌝ }
     ensures { λ _. ⌜ now (out .exit) ≡ placed at (headerText degree top) (now (out .entry)) ⌝ }
 {
-    put_long_line(out, at, b"degree ", degree, b" top ", top, b"\n")
+    list_lines::put_header(out, at, degree, top)
 }
 
 // The numbers of a row, of any length.
@@ -66,7 +52,7 @@ pub fn put_total(out: &mut [u8], at: usize, rows: u32) -> usize
     ensures { λ r. ⌜ r ≡ behind at (totalText rows) (now (out .entry)) ⌝ }
     ensures { λ _. ⌜ now (out .exit) ≡ placed at (totalText rows) (now (out .entry)) ⌝ }
 {
-    put_line(out, at, b"total ", rows)
+    list_lines::put_total(out, at, rows)
 }
 
 // The line that is printed in place of a list.
@@ -74,5 +60,5 @@ pub fn put_refused(out: &mut [u8], at: usize, number: u32) -> usize
     ensures { λ r. ⌜ r ≡ behind at (refusedText number) (now (out .entry)) ⌝ }
     ensures { λ _. ⌜ now (out .exit) ≡ placed at (refusedText number) (now (out .entry)) ⌝ }
 {
-    put_line(out, at, b"refused ", number)
+    list_lines::put_refused(out, at, number)
 }

@@ -12,7 +12,7 @@ use listing_rows::putting::put_rows;
 use listing_rows::taking::how_many;
 use listing_rows::taking::take_rows;
 use listing_start::Printing;
-use row_order::width::width_of;
+use row_places::width_of;
 
 // The next rows of a list, and the line of the one page of a list that has none.
 pub(crate) fn next_rows(

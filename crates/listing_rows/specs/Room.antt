@@ -16,7 +16,7 @@ use Rattle.text.specs.Lines.{line-length, long-length}
 use Rattle.row_text.specs.Rows.{rowBytes, row-none, row-some}
 use Rattle.page_line.specs.Texts.{page-line}
 use Rattle.page_line.specs.Due.{mostRows, dueText, due-true, due-false}
-use Rattle.listing.specs.Texts.{header-line, total-line, refused-length, refused-short}
+use Rattle.list_lines.specs.Texts.{header-line, total-line, refused-length, refused-short}
 use Rattle.listing_rows.specs.Printed.{stepText}
 
 -- The most bytes of a row and of the line of its page.

@@ -10,7 +10,7 @@ ghost use Rattle.page_rows.specs.Serve.{Filled};
 use definitions::Position;
 use definitions::Selection;
 use limits::LONGEST_ROW;
-use row_order::width::width_of;
+use row_places::width_of;
 use row_steps::write_steps;
 use search::frame::Frame;
 use search::frame::Tally;

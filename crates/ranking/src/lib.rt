@@ -8,7 +8,7 @@ use definitions::Refusal;
 use definitions::Selection;
 use generator::pair::Verdict;
 use page_rows::serve;
-use row_order::width::width_of;
+use row_places::width_of;
 
 pub mod position; // whether a position can be read from
 

@@ -23,7 +23,7 @@ use Rattle.answer_laws.specs.Measured.{given-counted, counted-uniformity}
 use Rattle.line.specs.LongLine.{numberBytes, line-cut}
 use Rattle.decimal_text.specs.Decimal.{ten-digits}
 use Rattle.text.specs.Lines.{longLine, long-length}
-use Rattle.listing.specs.Texts.{refused-short}
+use Rattle.list_lines.specs.Texts.{refused-short}
 use Rattle.pair_results.specs.Results.{tValueResult}
 use Rattle.pair_results.specs.declared.FenyurkaTValue.{FenyurkaTValue}
 

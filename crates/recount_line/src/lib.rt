@@ -21,7 +21,7 @@ pub fn put_recount(out: &mut [u8], at: usize, input: &[u8]) -> usize
 {
     let mut asked = [0u32; NUMBERS];
     if line::read_numbers(input, &mut asked) != NUMBERS {
-        return listing::put_refused(out, at, UNREADABLE);
+        return list_lines::put_refused(out, at, UNREADABLE);
     }
     put_pair(out, at, asked[0], asked[1], asked[2], asked[3])
 }
@@ -33,7 +33,7 @@ fn put_pair(out: &mut [u8], at: usize, degree: u32, p: u32, q: u32, dimension: u
 {
     let count = pair_results::t_value(counter::count_t_value(degree, p, q, dimension));
     if count.refusal != 0 {
-        return listing::put_refused(out, at, count.refusal);
+        return list_lines::put_refused(out, at, count.refusal);
     }
     let quick = pair_results::t_value(net::t_value(degree, p, q, dimension));
     put_both(out, at, quick.t, count.t)

@@ -3,8 +3,7 @@
 use mathlib.Core.Path.{_≡_, refl, sym, _∙_}
 use mathlib.Core.Bool.{false, not, _||_, _&&_}
 use mathlib.Core.List.{List, [], _∷_, _++_}
-use Prim.Native.Nat.{ℕ, suc, _+_, _-_, _*_, _/_, _≤_, _<_}
-use native.Mathlib.Nat.{mul-le-mul-right}
+use Prim.Native.Nat.{ℕ, suc, _+_, _-_, _≤_, _<_}
 use native.Mathlib.Numerals.{add-one}
 use native.Mathlib.Omega.{arith}
 use lib.Dec.{ltb}
@@ -14,10 +13,6 @@ use Rattle.definitions.specs.Pages.{before}
 use Rattle.definitions.specs.Ranking.{ranksFrom, rowKey}
 use Rattle.page_laws.specs.Key.{before-same, before-differ, before-single, before-append}
 use Rattle.row_order.specs.Ranks.{ranksOf}
-
--- The numbers before the row in the middle, and that row.
-pub mid-in : (w low high n : ℕ) → low < high → high ≤ n → (low + (high - low) / 2) * w + w ≤ n * w
-mid-in w low high n l h = omega (arith, mul-le-mul-right {m = suc (low + (high - low) / 2)} {n = n} w (omega arith))
 
 -- ---- t-values compared from place k on
 

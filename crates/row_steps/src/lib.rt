@@ -7,7 +7,7 @@ ghost use Rattle.page_laws.specs.Rows.{rowsOf};
 ghost use Rattle.ranking_laws.specs.Steps.{HaveSteps};
 ghost use Rattle.row_steps.specs.Written.{written};
 use giant_steps::step_of;
-use row_order::compare::STEP;
+use row_places::STEP;
 
 // Writes the step of each of the first n rows.
 pub fn write_steps(m: u32, width: usize, n: usize, out: &mut [u32])

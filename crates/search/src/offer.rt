@@ -21,9 +21,9 @@ use full_orders::primitive::have_full_orders;
 use insertion::rows::insert_row;
 use limits::LONGEST_ROW;
 use orders::floors::reaches_floor;
-use row_order::compare::stands_after;
-use row_order::slot::find_slot;
-use row_order::width::width_of;
+use row_order::stands_after;
+use row_places::width_of;
+use row_slot::find_slot;
 
 // Whether a row stands above the cut.
 fn is_above(row: &[u32], f: Frame, last: &[u32]) -> bool

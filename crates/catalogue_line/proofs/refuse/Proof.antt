@@ -6,7 +6,7 @@ use denote.Ref.{now}
 use borrow.Author.Needs.{needs}
 use Rattle.definitions.specs.Listing.{refusedText}
 use Rattle.slice_laws.specs.Place.{put-front}
-use Rattle.listing.specs.Texts.{refused-short}
+use Rattle.list_lines.specs.Texts.{refused-short}
 use Rattle.catalogue_line.proofs.refuse.Statement.{statement}
 use Rattle.catalogue_line.proofs.refuse.Tie as tie
 

@@ -48,20 +48,20 @@ use denote.Triple.Clauses.{ensured, lasts}
 use Rattle.definitions.specs.Catalogue.{lookupPart, readerRefusal, readerTop, readerGaps}
 use Rattle.definitions.specs.declared.Reader.{Reader}
 use Rattle.definitions.proofs.Reader.Laws as T′
-use Rattle.catalogue_reader.specs.Opened.{Opened}
-use Rattle.catalogue_reader.specs.declared.opening.OpenedPart.{OpenedPart}
-use Rattle.catalogue_reader.proofs.opening.OpenedPart as B
-use Rattle.catalogue_reader.proofs.opening.OpenedPart.Laws as B′
+use Rattle.catalogue_opening.specs.Opened.{Opened}
+use Rattle.catalogue_opening.specs.declared.OpenedPart.{OpenedPart}
+use Rattle.catalogue_opening.proofs.OpenedPart as B
+use Rattle.catalogue_opening.proofs.OpenedPart.Laws as B′
 use Rattle.catalogue_reader.proofs.ByHand.{calls-frame, walk-proves}
 use Rattle.catalogue_reader.proofs.Held.{Declares, laws, local, with-room}
-use Rattle.catalogue_reader.proofs.opening.opened as opened
-use Rattle.catalogue_reader.proofs.opening.opened.Symbol as opened-def
-use Rattle.catalogue_reader.proofs.opening.opened.Symbol.{name as #opened}
-use Rattle.catalogue_reader.proofs.opening.opened.Met as opened-thm
-use Rattle.catalogue_reader.proofs.opening.cut as cut
-use Rattle.catalogue_reader.proofs.opening.cut.Symbol as cut-def
-use Rattle.catalogue_reader.proofs.opening.cut.Symbol.{name as #cut}
-use Rattle.catalogue_reader.proofs.opening.cut.Met as cut-thm
+use Rattle.catalogue_opening.proofs.opened as opened
+use Rattle.catalogue_opening.proofs.opened.Symbol as opened-def
+use Rattle.catalogue_opening.proofs.opened.Symbol.{name as #opened}
+use Rattle.catalogue_opening.proofs.opened.Met as opened-thm
+use Rattle.catalogue_reader.proofs.part.cut as cut
+use Rattle.catalogue_reader.proofs.part.cut.Symbol as cut-def
+use Rattle.catalogue_reader.proofs.part.cut.Symbol.{name as #cut}
+use Rattle.catalogue_reader.proofs.part.cut.Met as cut-thm
 use Rattle.catalogue_reader.proofs.reader.Key.{name as #reader}
 use Rattle.catalogue_reader.proofs.reader as reader
 use Rattle.catalogue_reader.proofs.reader.Statement as stated
@@ -255,8 +255,8 @@ reader-spec 𝓤 H 𝓜 𝓖 𝓡 =
     let A : Atoms 𝓤 = 𝓖 .A in
     let W : Given 𝓤 H A = givenOf 𝓤 H 𝓜 𝓖 in
     let opened-known =
-    cited 𝓤 H (Place 𝓤 H A (𝓜 .mem) (𝓡 .run)) 𝓜 𝓡 code.env #opened opened-def.routine code.calls-catalogue-reader·opening·opened (opened-thm.met 𝓤 H 𝓜 𝓖 𝓡) in
-    let cut-known = cited 𝓤 H (Cut 𝓤 H A (𝓜 .mem) (𝓡 .run)) 𝓜 𝓡 code.env #cut cut-def.routine code.calls-catalogue-reader·opening·cut (cut-thm.met 𝓤 H 𝓜 𝓖 𝓡) in
+    cited 𝓤 H (Place 𝓤 H A (𝓜 .mem) (𝓡 .run)) 𝓜 𝓡 code.env #opened opened-def.routine code.calls-catalogue-opening·opened (opened-thm.met 𝓤 H 𝓜 𝓖 𝓡) in
+    let cut-known = cited 𝓤 H (Cut 𝓤 H A (𝓜 .mem) (𝓡 .run)) 𝓜 𝓡 code.env #cut cut-def.routine code.calls-catalogue-reader·part·cut (cut-thm.met 𝓤 H 𝓜 𝓖 𝓡) in
     walk-proves 𝓤 H 𝓜 𝓖 𝓡 code.env #reader code.function (code.unfolded 𝓤 H 𝓜 𝓡) reader.ended stayed
     (goes-none-slice 𝓤 H A W 1 (0 ∷ []) tt (plain (λ _. u8)) yes, (goes-none 𝓤 H A W 1 (λ _. u32) yes (λ κs x f. refl), tt))
     (reader.clauses 𝓤 H A (𝓜 .mem) (𝓡 .run))

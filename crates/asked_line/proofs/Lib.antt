@@ -1,0 +1,2 @@
+-- What the proof rests on.
+pub mod Asked

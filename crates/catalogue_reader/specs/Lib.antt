@@ -1,2 +1,0 @@
--- What the contracts of the reader's inner functions cite.
-pub mod Opened

@@ -1,2 +1,0 @@
--- What the proofs of the listing share.
-pub mod Asked
