@@ -8,9 +8,9 @@ use native.Mathlib.Omega.{arith}
 use lib.Pow.{pow-pos, pow-add}
 use borrow.Author.Tests.{eq-eqb, ne-eqb}
 use Rattle.definitions.specs.Polynomial.{prod, power, rem}
-use Rattle.definitions.specs.Generator.{period, primitive}
+use Rattle.definitions.specs.Generator.{largestDegree, period, primitive}
 use Rattle.definitions.specs.Points.{state}
-use Rattle.number_laws.specs.Bounds.{LawfulDegree, lead-low}
+use Rattle.number_laws.specs.Bounds.{LawfulDegree, lead-low, lead-high}
 use Rattle.polynomial_laws.specs.Degree.{HasDegree}
 use Rattle.polynomial_laws.specs.Product.{prod-comm}
 use Rattle.polynomial_laws.specs.Power.{rem-power-add}
@@ -27,6 +27,10 @@ Squares p lead t = Maps (λ a. rem (prod a a) p) lead t
 
 abbrev pub Products : ℕ → ℕ → ℕ → List ℕ → Type 0
 Products p q lead t = Maps (λ a. rem (prod q a) p) lead t
+
+-- What the table of squares asks, at the leading term.
+pub squares-asked : {m p lead : ℕ} → LawfulDegree m → HasDegree p m → lead ≡ 2 ^ m → Modulus p lead × (lead ≤ 2 ^ largestDegree)
+squares-asked h d e = (lawful-modulus h d e, rw e (lead-high h))
 
 module _ {p lead : ℕ} (h : Modulus p lead) (t : List ℕ) {v r : ℕ} (residue : v < lead) (is : r ≡ imageOf t v) where
   pub squared : Squares p lead t → (r ≡ rem (prod v v) p) × (r < lead)

@@ -8,7 +8,6 @@ ghost use Rattle.number_laws.specs.Bounds.{LawfulDegree};
 ghost use Rattle.polynomial_laws.specs.Degree.{HasDegree};
 ghost use Rattle.fraction_laws.specs.WellFormed.{WellFormed};
 ghost use Rattle.order_laws.specs.Exponents.{noneOf};
-ghost use Rattle.order_laws.specs.Parity.{linearFactor};
 ghost use Rattle.order_laws.specs.Primitive.{returns};
 ghost use Rattle.order_laws.specs.Table.{divisorsOf};
 ghost use Rattle.linear_maps.specs.Maps.{Maps};
@@ -17,35 +16,19 @@ use linear_maps::maps;
 use orders::divisors;
 use polynomial::digits;
 
-// p has the factor x or x + 1, and so is not primitive.
-fn has_linear_factor(p: u32) -> bool
-    ensures { λ r. ⌜ r ≡ linearFactor p ⌝ }
-{
-    if p % 2 == 0 {
-        return true;
-    }
-    digits::parity(p) == 0
-}
-
-// The table of squares modulo p.
-fn squares_of(m: u32, p: u32) -> [u32; maps::ENTRIES]
-    requires { ⌜ LawfulDegree m ⌝ }
-    requires { ⌜ HasDegree p m ⌝ }
-    ensures { λ t. ⌜ Maps (λ a. rem (prod a a) p) (2 ^ m) t ⌝ }
-{
-    maps::square_map(p, digits::leading_term(m))
-}
-
-// x has the order N modulo p.
+// x has the order N modulo p. A p with the factor x or x + 1 is told at once.
 pub fn is_primitive(m: u32, p: u32) -> bool
     requires { ⌜ LawfulDegree m ⌝ }
     requires { ⌜ HasDegree p m ⌝ }
     ensures { λ r. ⌜ r ≡ primitive m p ⌝ }
 {
-    if has_linear_factor(p) {
+    if p % 2 == 0 {
         return false;
     }
-    let squares = squares_of(m, p);
+    if digits::parity(p) == 0 {
+        return false;
+    }
+    let squares = maps::square_map(p, digits::leading_term(m));
     x_has_full_order(m, p, &squares)
 }
 
@@ -56,20 +39,23 @@ pub fn has_full_order(m: u32, p: u32, q: u32) -> bool
     requires { ⌜ primitive m p ≡ true ⌝ }
     ensures { λ r. ⌜ r ≡ coprimeStep m p q ⌝ }
 {
-    let squares = squares_of(m, p);
+    let squares = maps::square_map(p, digits::leading_term(m));
     q_has_full_order(m, p, q, &squares)
 }
 
-// Both orders, of x and of q.
+// Both orders, of x and of q. The table of squares serves both.
 pub fn have_full_orders(m: u32, p: u32, q: u32) -> bool
     requires { ⌜ LawfulDegree m ⌝ }
     requires { ⌜ WellFormed m p q ⌝ }
     ensures { λ r. ⌜ r ≡ (primitive m p && coprimeStep m p q) ⌝ }
 {
-    if has_linear_factor(p) {
+    if p % 2 == 0 {
         return false;
     }
-    let squares = squares_of(m, p);
+    if digits::parity(p) == 0 {
+        return false;
+    }
+    let squares = maps::square_map(p, digits::leading_term(m));
     if !x_has_full_order(m, p, &squares) {
         return false;
     }

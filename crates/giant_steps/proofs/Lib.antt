@@ -1,3 +1,2 @@
--- What the proofs of this crate share.
-pub mod ChainLaws
+-- What the proof of this crate cites.
 pub mod StepLaws

@@ -18,8 +18,8 @@ use Rattle.order_laws.specs.Cycle.{degree-big}
 use Rattle.order_laws.specs.Step.{step-to}
 use Rattle.order_laws.specs.Giant.{GiantAt, half-below, giant-found, giant-before, giant-next}
 use Rattle.linear_maps.specs.Maps.{imageOf, Maps}
-use Rattle.giant_steps.specs.Chains.{babySteps, holds, BabySteps}
-use Rattle.giant_steps.proofs.ChainLaws.{holds-out}
+use Rattle.baby_steps.specs.Chains.{babySteps, holds, BabySteps}
+use Rattle.baby_steps.proofs.ChainLaws.{holds-out}
 
 -- As many baby steps as there are numbers of half the digits.
 pub count-fits : {m count : ℕ} → LawfulDegree m → count ≡ 2 ^ (m / 2) → Between 1 babySteps count

@@ -1,7 +1,7 @@
 // The step of a row by giant steps. With B = 2^(m/2), the B residues q, q x, .., q x^(B-1) are the baby steps, and x^B, x^(2B), .. the giant ones. The
 // first giant step x^(Bi) that is a baby step, q x^j, tells the step Bi - j. Judging keeps the plain finder of `orders`, as document 01 has it. Customers
 // call nothing here.
-use chains::BABY_STEPS;
+use baby_steps::BABY_STEPS;
 use linear_maps::maps;
 use polynomial::digits;
 use polynomial::residues;
@@ -10,8 +10,6 @@ ghost use mathlib.Core.Bool.{true};
 ghost use Rattle.definitions.specs.Generator.{primitive, step};
 ghost use Rattle.number_laws.specs.Bounds.{LawfulDegree};
 ghost use Rattle.fraction_laws.specs.WellFormed.{WellFormed};
-
-pub mod chains; // the baby steps, and whether a residue is one of them
 
 // The first power of x, from x itself, that equals q. Where p is primitive every q is met, 1 as the last.
 pub fn step_of(m: u32, p: u32, q: u32) -> u32
@@ -25,13 +23,13 @@ pub fn step_of(m: u32, p: u32, q: u32) -> u32
     let mut first = [0u32; BABY_STEPS];
     let mut next = [0u32; BABY_STEPS];
     let mut value = [0u32; BABY_STEPS];
-    chains::fill(count, q, p, lead, &mut first, &mut next, &mut value);
+    baby_steps::fill(count, q, p, lead, &mut first, &mut next, &mut value);
     let factor = residues::pow_mod(2, count, p, lead);
     let map = maps::times_map(factor, p, lead);
     let mut giant = factor;
     let mut e = count;
     let step = loop {
-        let place = chains::place_of(&first, &next, &value, count, giant);
+        let place = baby_steps::place_of(&first, &next, &value, count, giant);
         if place != 0 {
             break e + 1 - place;
         }

@@ -18,8 +18,8 @@ use Rattle.polynomial_laws.specs.Division.{rem-double}
 use Rattle.polynomial_laws.specs.Power.{rem-one}
 use Rattle.polynomial_laws.specs.Leading.{residue-additive, square-additive}
 use Rattle.polynomial.specs.Modulus.{Modulus, modulus-positive, modulus-one, residue-small}
-use Rattle.linear_maps.specs.Spreading.{Spread}
-use Rattle.linear_maps.specs.Tables.{Tabled, tabled-start, tabled-double, tabled-kept, tabled-beyond}
+use Rattle.additive_tables.specs.Spreading.{Spread}
+use Rattle.additive_tables.specs.Tables.{Tabled, tabled-start, tabled-double, tabled-kept, tabled-beyond}
 use Rattle.linear_maps.specs.Maps.{blockDigits, block, entries, BlockOf, Maps, blocks-map}
 
 -- The function that is tabled: squaring, or times c.
@@ -31,6 +31,16 @@ mapped false p c a = rem (prod c a) p
 unfoldable pub doubled : Bool → ℕ → ℕ → ℕ
 doubled true p v = rem (2 * rem (2 * v) p) p
 doubled false p v = rem (2 * v) p
+
+-- It is x times that, and for squares once more.
+module _ {squares : Bool} (p v : ℕ) {lead once : ℕ} (first : (once ≡ rem (2 * v) p) × (once < lead)) where
+  pub doubled-twice : squares ≡ true → {twice w : ℕ} → (twice ≡ rem (2 * once) p) × (twice < lead) → w ≡ twice → (w ≡ doubled squares p v) × (w < lead)
+  unfolding doubled
+  doubled-twice is second same = rw (is, same) (second .0 ∙ ap (λ (x : ℕ). rem (2 * x) p) (first .0), second .1)
+
+  pub doubled-once : squares ≡ false → {w : ℕ} → w ≡ once → (w ≡ doubled squares p v) × (w < lead)
+  unfolding doubled
+  doubled-once is same = rw (is, same) first
 
 module _ {p lead : ℕ} (h : Modulus p lead) where
   mapped-additive : (squares : Bool) (c : ℕ) → Additive (mapped squares p c)
@@ -46,9 +56,10 @@ module _ {p lead : ℕ} (h : Modulus p lead) where
   mapped-double false c a = rw prod-double (rem-double p (modulus-positive h) (prod c a))
 
   -- the image of 1
-  pub first-square : (1 ≡ mapped true p 1 1) × (1 < lead)
+  pub first-one : (squares : Bool) → (1 ≡ mapped squares p 1 1) × (1 < lead)
   unfolding mapped
-  first-square = (sym (rw one-prod (rem-one p (h .large))), modulus-one h)
+  first-one true = (sym (rw one-prod (rem-one p (h .large))), modulus-one h)
+  first-one false = (sym (rw one-prod (rem-one p (h .large))), modulus-one h)
 
   pub first-times : (c : ℕ) → c < lead → (c ≡ mapped false p c 1) × (c < lead)
   unfolding mapped

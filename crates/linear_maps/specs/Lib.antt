@@ -1,5 +1,3 @@
 -- What the contracts cite, and the laws that the code's proofs cite.
-pub mod Spreading
-pub mod Tables
 pub mod Maps
 pub mod Filling

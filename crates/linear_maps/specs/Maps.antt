@@ -9,7 +9,7 @@ use Rattle.definitions.specs.Polynomial.{_⊕_}
 use Rattle.definitions.specs.Generator.{largestDegree}
 use Rattle.polynomial_laws.specs.Sum.{⊕-assoc}
 use Rattle.polynomial_laws.specs.Additive.{Additive}
-use Rattle.linear_maps.specs.Tables.{Tabled, split}
+use Rattle.additive_tables.specs.Tables.{Tabled, split}
 
 -- As many digits that four blocks are enough,
 abbrev pub blockDigits : ℕ

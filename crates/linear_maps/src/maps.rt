@@ -6,8 +6,8 @@ ghost use Rattle.definitions.specs.Polynomial.{prod, rem};
 ghost use Rattle.definitions.specs.Generator.{largestDegree};
 ghost use Rattle.polynomial.specs.Modulus.{Modulus};
 ghost use Rattle.linear_maps.specs.Maps.{block, imageOf, Maps};
-ghost use Rattle.linear_maps.specs.Filling.{mapped, doubled, Block};
-use crate::tables;
+ghost use Rattle.linear_maps.specs.Filling.{mapped, Block};
+use additive_tables::spread;
 use polynomial::residues;
 
 // As many digits that four blocks are enough, and one entry for each of their values.
@@ -66,7 +66,8 @@ fn fill(first: u32, squares: bool, p: u32, lead: u32) -> [u32; ENTRIES]
     table
 }
 
-// One block from `base` on, from the image of its lowest digit on; answers the image of the next block's lowest digit.
+// One block from `base` on, from the image of its lowest digit on; answers the image of the next block's lowest digit. The image of the next digit is x
+// times that of a digit, and for squares once more.
 fn fill_block(table: &mut [u32], base: usize, first: u32, squares: bool, p: u32, lead: u32) -> u32
     requires { ⌜ Modulus p lead ⌝ }
     requires { ⌜ first < lead ⌝ }
@@ -76,22 +77,12 @@ fn fill_block(table: &mut [u32], base: usize, first: u32, squares: bool, p: u32,
     let mut image = first;
     let mut n: usize = 1;
     while n < BLOCK {
-        tables::spread(table, base, n, image);
-        image = next_image(image, squares, p, lead);
+        spread(table, base, n, image);
+        image = residues::times_x(image, p, lead);
+        if squares {
+            image = residues::times_x(image, p, lead);
+        }
         n *= 2;
     }
     image
-}
-
-// The image of the next digit: x times that of a digit, and for squares once more.
-fn next_image(image: u32, squares: bool, p: u32, lead: u32) -> u32
-    requires { ⌜ Modulus p lead ⌝ }
-    requires { ⌜ image < lead ⌝ }
-    ensures { λ r. ⌜ (r ≡ doubled squares p image) × (r < lead) ⌝ }
-{
-    let once = residues::times_x(image, p, lead);
-    if squares {
-        return residues::times_x(once, p, lead);
-    }
-    once
 }

@@ -2,14 +2,12 @@
 -- What p leaves keeps its remainder by a factor of p. By x every power from x on leaves 0, and 1 leaves 1; by x + 1 every power leaves 1, and
 -- x + 1 itself leaves 0, though modulo a primitive p it is a power. Assumes nothing.
 use mathlib.Core.Path.{_≡_, refl, sym, ap, _∙_}
-use mathlib.Core.Bool.{Bool, true, false, _||_, false≢true}
+use mathlib.Core.Bool.{false}
 use Prim.Native.Nat.{ℕ, zero, suc, _+_, _*_, _/_, _%_, _^_, _≤_, _<_}
 use native.Mathlib.Nat.{one-mul, pow-succ'}
 use native.Mathlib.Omega.{arith}
-use lib.Dec.{eqb}
 use lib.Count.{ones, ones-step}
 use lib.Pow.{pow-mono}
-use borrow.Author.Tests.{eqb-true, eq-eqb}
 use Rattle.definitions.specs.Polynomial.{_⊕_, rem, prod}
 use Rattle.definitions.specs.Generator.{period, primitive}
 use Rattle.number_laws.specs.Truth.{truth-false}
@@ -75,7 +73,7 @@ power-leaves-one : (e : ℕ) → rem (2 ^ e) 3 ≡ 1
 power-leaves-one zero = rem-one 3 (omega arith)
 power-leaves-one (suc e) = rw (pow-succ', by-other-double) (power-leaves-one e)
 
-even-parity-not-primitive : (m p : ℕ) → 2 ≤ m → HasDegree p m → parity p ≡ 0 → primitive m p ≡ false
+pub even-parity-not-primitive : (m p : ℕ) → 2 ≤ m → HasDegree p m → parity p ≡ 0 → primitive m p ≡ false
 even-parity-not-primitive m p h d even = truth-false (primitive m p) (λ t. clash (full-cycle m p (omega arith) d t 3 (omega arith) (omega (arith, pow-mono h))))
   where
     clash : PowerOf m p 3 → ⊥
@@ -83,27 +81,3 @@ even-parity-not-primitive m p h d even = truth-false (primitive m p) (λ t. clas
         let left : rem 3 3 ≡ rem (2 ^ w .exponent) 3 =
         ap (λ r. rem r 3) (sym (w .gives)) ∙ rem-of-factor 3 p (omega arith) (positive d) (rem-parity p ∙ even) (2 ^ w .exponent) in
         omega (arith, left, power-leaves-one (w .exponent), rw one-prod at (rem-multiple 3 (omega arith) 1))
-
--- ---- either factor
--- p has the factor x or x + 1.
-unfoldable pub linearFactor : ℕ → Bool
-linearFactor p = eqb (p % 2) 0 || eqb (parity p) 0
-
-module _ (p : ℕ) where
-  pub linear-factor-not-primitive : (m : ℕ) → 2 ≤ m → HasDegree p m → linearFactor p ≡ true → primitive m p ≡ false
-  unfolding linearFactor
-  linear-factor-not-primitive m h d = go (eqb (p % 2) 0) (eqb-true (p % 2) 0)
-    where
-      go : (even : Bool) → (even ≡ true → p % 2 ≡ 0) → (even || eqb (parity p) 0) ≡ true → primitive m p ≡ false
-      go true is factor = even-not-primitive m p (omega arith) (positive d) (is refl)
-      go false is factor = even-parity-not-primitive m p h d (eqb-true (parity p) 0 factor)
-
-  pub no-linear-factor-odd : linearFactor p ≡ false → p % 2 ≡ 1
-  unfolding linearFactor
-  no-linear-factor-odd = go (eqb (p % 2) 0) (eq-eqb (p % 2) 0)
-    where
-      go : (even : Bool) → (p % 2 ≡ 0 → even ≡ true) → (even || eqb (parity p) 0) ≡ false → p % 2 ≡ 1
-      go true is none = absurd (false≢true (sym none))
-      go false is none =
-          let other : p % 2 ≡ 0 → ⊥ = λ e. false≢true (is e) in
-          omega arith

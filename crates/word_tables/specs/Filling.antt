@@ -15,8 +15,8 @@ use Rattle.polynomial_laws.specs.Additive.{Additive}
 use Rattle.polynomial_laws.specs.Degree.{HasDegree, positive, degree-unique}
 use Rattle.polynomial_laws.specs.Division.{rem-lt}
 use Rattle.polynomial_laws.specs.Leading.{residue-additive, leading-additive}
-use Rattle.linear_maps.specs.Spreading.{Spread}
-use Rattle.linear_maps.specs.Tables.{Tabled, tabled-start, tabled-beyond, tabled-double}
+use Rattle.additive_tables.specs.Spreading.{Spread}
+use Rattle.additive_tables.specs.Tables.{Tabled, tabled-start, tabled-beyond, tabled-double}
 use Rattle.word_tables.specs.Tables.{halfDigits, size, looked-up}
 
 -- The state after y.

@@ -10,7 +10,7 @@ use Rattle.definitions.specs.Polynomial.{_⊕_}
 use Rattle.definitions.specs.Generator.{largestDegree}
 use Rattle.polynomial_laws.specs.Sum.{⊕-def}
 use Rattle.polynomial_laws.specs.Additive.{Additive}
-use Rattle.linear_maps.specs.Tables.{Tabled, split}
+use Rattle.additive_tables.specs.Tables.{Tabled, split}
 
 -- Half of the digits that a state has at most,
 abbrev pub halfDigits : ℕ

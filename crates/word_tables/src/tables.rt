@@ -7,7 +7,7 @@ ghost use Rattle.fraction_laws.specs.WellFormed.{WellFormed};
 ghost use Rattle.word_tables.specs.Tables.{size};
 ghost use Rattle.word_tables.specs.Filling.{Unit, Filled};
 use crate::word;
-use linear_maps::tables::spread;
+use additive_tables::spread;
 use polynomial::digits;
 use polynomial::residues;
 

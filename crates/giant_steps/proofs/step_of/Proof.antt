@@ -11,7 +11,7 @@ use Rattle.number_laws.specs.Bounds.{one-shl, lead-high}
 use Rattle.polynomial_laws.specs.Power.{power-of-x}
 use Rattle.polynomial.specs.Modulus.{Modulus, lawful-modulus}
 use Rattle.order_laws.specs.Giant.{GiantAt, giant-start}
-use Rattle.giant_steps.proofs.ChainLaws.{chained-none}
+use Rattle.baby_steps.proofs.ChainLaws.{chained-none}
 use Rattle.giant_steps.proofs.StepLaws.{Ground, count-fits, exponent-fits, place-within, step-told, giant-more, nearer}
 use Rattle.giant_steps.proofs.step_of.Statement.{statement}
 use Rattle.giant_steps.proofs.step_of.Tie as tie

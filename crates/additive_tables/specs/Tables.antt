@@ -14,7 +14,7 @@ use Rattle.definitions.specs.Polynomial.{_⊕_}
 use Rattle.polynomial_laws.specs.Sum.{⊕-def, ⊕-comm}
 use Rattle.polynomial_laws.specs.Additive.{Additive, additive-zero}
 use Rattle.polynomial_laws.specs.Leading.{shift-⊕}
-use Rattle.linear_maps.specs.Spreading.{Spread}
+use Rattle.additive_tables.specs.Spreading.{Spread}
 
 -- The n entries from base on are right, as far as they stand for residues, which are the numbers below lead.
 pub record Tabled (f : ℕ → ℕ) (lead unit base n : ℕ) (l : List ℕ) : Type 0 where

@@ -1,10 +1,10 @@
--- `linear_maps::tables::spread` meets its contract. Invariant: the first i entries are copied, and all else is as it was. Assumes nothing.
+-- `additive_tables::spread` meets its contract. Invariant: the first i entries are copied, and all else is as it was. Assumes nothing.
 use mathlib.Core.Path.{_≡_}
 use Prim.Native.Nat.{_-_, _≤_}
 use native.Mathlib.Omega.{arith}
-use Rattle.linear_maps.specs.Spreading.{Spreading, spread-start, spread-more}
-use Rattle.linear_maps.proofs.tables.spread.Statement.{statement}
-use Rattle.linear_maps.proofs.tables.spread.Tie as tie
+use Rattle.additive_tables.specs.Spreading.{Spreading, spread-start, spread-more}
+use Rattle.additive_tables.proofs.spread.Statement.{statement}
+use Rattle.additive_tables.proofs.spread.Tie as tie
 
 abbrev Inv-loop : tie.InvT-loop
 Inv-loop table₀ base n value i₀ table i = Spreading base n value i table₀ table × (i ≤ n)

@@ -19,7 +19,7 @@ use Rattle.number_laws.specs.Lists.{set-each}
 use Rattle.polynomial_laws.specs.Division.{rem-double}
 use Rattle.polynomial.specs.Modulus.{Modulus, modulus-positive, residue-small}
 use Rattle.order_laws.specs.Giant.{babyStep}
-use Rattle.giant_steps.specs.Chains.{babySteps, holds, holdsLow, Chained, BabySteps}
+use Rattle.baby_steps.specs.Chains.{babySteps, holds, holdsLow, Chained, BabySteps}
 
 -- Low digits are a place of `first`.
 pub low-fits : {count : ℕ} → Between 1 babySteps count → (v : ℕ) → bitAnd v (count - 1) < babySteps

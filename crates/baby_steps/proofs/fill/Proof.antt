@@ -1,4 +1,4 @@
--- `giant_steps::chains::fill` meets its contract. Invariant: the first j places hold the first j baby steps, chained, and the residue is the next one.
+-- `baby_steps::fill` meets its contract. Invariant: the first j places hold the first j baby steps, chained, and the residue is the next one.
 -- Assumes nothing.
 use mathlib.Core.Path.{_≡_}
 use Prim.Native.Nat.{_-_, _≤_, _<_}
@@ -6,10 +6,10 @@ use native.Mathlib.Numerals.{add-one}
 use native.Mathlib.Omega.{arith}
 use lib.Bits.{bitAnd}
 use borrow.Author.Needs.{needs}
-use Rattle.giant_steps.specs.Chains.{babySteps}
-use Rattle.giant_steps.proofs.ChainLaws.{Filling, low-fits, filling-start, filling-more}
-use Rattle.giant_steps.proofs.chains.fill.Statement.{statement}
-use Rattle.giant_steps.proofs.chains.fill.Tie as tie
+use Rattle.baby_steps.specs.Chains.{babySteps}
+use Rattle.baby_steps.proofs.ChainLaws.{Filling, low-fits, filling-start, filling-more}
+use Rattle.baby_steps.proofs.fill.Statement.{statement}
+use Rattle.baby_steps.proofs.fill.Tie as tie
 
 abbrev Inv-loop : tie.InvT-loop
 Inv-loop count q p lead first₀ next₀ value₀ all residue₀ j₀ first next value residue j = Filling p q lead count j residue first next value

@@ -1,5 +1,6 @@
-// The baby steps in chains by their low digits, so that one of them is found by a few comparisons. The place of q x^j is j + 1, with the residue in value[j]
-// and the place before it in its chain in next[j]; `first` has the last place of each chain, and 0 stands for none.
+// The baby steps q, q x, q x^2, .. in chains by their low digits, so that one of them is found by a few comparisons. The place of q x^j is j + 1, with the
+// residue in value[j] and the place before it in its chain in next[j]; `first` has the last place of each chain, and 0 stands for none. Customers call
+// nothing here.
 use limits::LARGEST_DEGREE;
 use polynomial::residues;
 ghost use mathlib.Core.Path.{_≡_};
@@ -7,7 +8,7 @@ ghost use Prim.Native.Nat.{_-_, _<_};
 ghost use Rattle.definitions.specs.Number.{largest};
 ghost use Rattle.number_laws.specs.Bounds.{Between};
 ghost use Rattle.polynomial.specs.Modulus.{Modulus};
-ghost use Rattle.giant_steps.specs.Chains.{babySteps, holds, Chained, BabySteps};
+ghost use Rattle.baby_steps.specs.Chains.{babySteps, holds, Chained, BabySteps};
 
 // The most baby steps: 2^(m/2) of the largest degree.
 pub const BABY_STEPS: usize = 1 << (LARGEST_DEGREE / 2);

@@ -1,12 +1,12 @@
--- `giant_steps::chains::place_of` meets its contract. Invariant: the last place that holds the residue is the place at hand or one before it, and that one
+-- `baby_steps::place_of` meets its contract. Invariant: the last place that holds the residue is the place at hand or one before it, and that one
 -- has the low digits of the residue. The measure is the place. Assumes nothing.
 use mathlib.Core.Path.{_≡_}
 use Prim.Native.Nat.{_-_}
 use native.Mathlib.Omega.{arith}
 use borrow.Author.Needs.{needs}
-use Rattle.giant_steps.proofs.ChainLaws.{Seeking, low-fits, seeking-start, seeking-found, seeking-less, seeking-next, seeking-none}
-use Rattle.giant_steps.proofs.chains.place_of.Statement.{statement}
-use Rattle.giant_steps.proofs.chains.place_of.Tie as tie
+use Rattle.baby_steps.proofs.ChainLaws.{Seeking, low-fits, seeking-start, seeking-found, seeking-less, seeking-next, seeking-none}
+use Rattle.baby_steps.proofs.place_of.Statement.{statement}
+use Rattle.baby_steps.proofs.place_of.Tie as tie
 
 abbrev Inv-loop : tie.InvT-loop
 Inv-loop first next value count residue place₀ place = Seeking (count - 1) count residue value place

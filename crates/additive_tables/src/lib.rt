@@ -1,7 +1,7 @@
-// A table of an additive function doubles: the entries behind the first n are those with one value added.
+// Tables of additive functions. A table doubles: the entries behind the first n are those with one value added. Customers call nothing here.
 ghost use Prim.Native.Nat.{_+_, _≤_};
 ghost use lib.ListN.{length};
-ghost use Rattle.linear_maps.specs.Spreading.{Spread};
+ghost use Rattle.additive_tables.specs.Spreading.{Spread};
 
 // The n entries from `base` on, each with the value added, behind themselves.
 pub fn spread(table: &mut [u32], base: usize, n: usize, value: u32)

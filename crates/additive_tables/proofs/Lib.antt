@@ -1,0 +1,1 @@
+-- The proofs of this crate share nothing but its specs.
