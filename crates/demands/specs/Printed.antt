@@ -10,7 +10,7 @@ use native.Mathlib.Omega.{arith}
 use lib.ListN.{length, take, length-append}
 use denote.Ref.{now}
 use Rattle.definitions.specs.Listing.{readLine, lineValues, listing}
-use Rattle.listing_rows.specs.Room.{stepRoom}
+use Rattle.paged_rows.specs.Room.{stepRoom}
 use Rattle.listing_start.specs.Left.{textLeft, Underway, rowRoom}
 use Rattle.listing_start.specs.Decision.{start-text, start-underway}
 use Rattle.listing_start.specs.declared.Printing.{Printing}

@@ -15,8 +15,8 @@ use Rattle.page_laws.specs.Rows.{rowsOf}
 use Rattle.cursor.specs.Left.{left, passed}
 use Rattle.cursor.specs.declared.reading.Cursor.{Cursor}
 use Rattle.cursor.specs.declared.reading.Portion.{Portion}
-use Rattle.listing_rows.specs.Printed.{some, rowsText}
-use Rattle.listing_rows.specs.Room.{stepRoom, empty-page}
+use Rattle.paged_rows.specs.Printed.{some, rowsText}
+use Rattle.paged_rows.specs.Room.{stepRoom, empty-page}
 use Rattle.listing_start.specs.Left.{OnWay}
 use Rattle.listing_start.specs.declared.Printing.{Printing}
 use Rattle.listing_start.specs.declared.Printing.the-variants.{Rows, Total}

@@ -21,8 +21,8 @@ use Rattle.cursor.specs.Left.{left, startOf, passed}
 use Rattle.cursor.specs.Passed.{passed-left, passed-on}
 use Rattle.cursor.specs.Turns.{left-start, start-reads}
 use Rattle.cursor.specs.declared.reading.Cursor.{Cursor}
-use Rattle.listing_rows.specs.Printed.{some, printed, printedFrom, rowsText, list-is-printed, parts-are-printed}
-use Rattle.listing_rows.specs.Room.{stepRoom, row-some-text, empty-page, refused-some, header-some, total-some}
+use Rattle.paged_rows.specs.Printed.{some, printed, printedFrom, rowsText, list-is-printed, parts-are-printed}
+use Rattle.paged_rows.specs.Room.{stepRoom, row-some-text, empty-page, refused-some, header-some, total-some}
 use Rattle.listing_start.specs.Left.{textLeft, Underway, rowRoom}
 use Rattle.listing_start.specs.declared.Printing.{Printing}
 use Rattle.listing_start.specs.declared.Printing.the-variants.{Refused, Whole, Rows, Total, Nothing}

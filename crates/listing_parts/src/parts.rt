@@ -2,7 +2,7 @@
 ghost use mathlib.Core.Path.{_≡_};
 ghost use Prim.Native.Nat.{_≤_};
 ghost use lib.ListN.{length};
-ghost use Rattle.listing_rows.specs.Room.{stepRoom};
+ghost use Rattle.paged_rows.specs.Room.{stepRoom};
 ghost use Rattle.listing_start.specs.Left.{Underway, rowRoom};
 ghost use Rattle.listing_parts.specs.Parts.{partAt, rowsAfter, textAfter};
 use crate::rows::next_rows;

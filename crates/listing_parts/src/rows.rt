@@ -3,15 +3,15 @@ ghost use mathlib.Core.Path.{_≡_};
 ghost use Prim.Native.Nat.{_≤_};
 ghost use lib.ListN.{length};
 ghost use Rattle.definitions.specs.Ranking.{rowWidth};
-ghost use Rattle.listing_rows.specs.Room.{stepRoom};
+ghost use Rattle.paged_rows.specs.Room.{stepRoom};
 ghost use Rattle.listing_start.specs.Left.{OnWay};
 ghost use Rattle.listing_parts.specs.Parts.{partAt, rowsAfter, textAfter};
 use crate::parts::Part;
 use cursor::reading::Cursor;
-use listing_rows::putting::put_rows;
 use listing_rows::taking::how_many;
 use listing_rows::taking::take_rows;
 use listing_start::Printing;
+use paged_rows::putting::put_rows;
 use row_places::width_of;
 
 // The next rows of a list, and the line of the one page of a list that has none.

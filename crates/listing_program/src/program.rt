@@ -3,7 +3,7 @@
 ghost use Prim.Native.Nat.{_≤_};
 ghost use lib.ListN.{length};
 ghost use Rattle.definitions.specs.Ranking.{longestRow};
-ghost use Rattle.listing_rows.specs.Room.{stepRoom};
+ghost use Rattle.paged_rows.specs.Room.{stepRoom};
 ghost use Rattle.listing_start.specs.Left.{Underway};
 ghost use Rattle.listing_program.specs.Rooms.{numbersAtHand, bytesAtHand};
 use libc::STDOUT_FILENO;
@@ -19,7 +19,7 @@ const ROWS_AT_HAND: usize = 3072;
 // The numbers of so many rows, and the bytes of their text.
 const NUMBERS_AT_HAND: usize = ROWS_AT_HAND * limits::LONGEST_ROW;
 
-const BYTES_AT_HAND: usize = ROWS_AT_HAND * listing_rows::STEP_ROOM;
+const BYTES_AT_HAND: usize = ROWS_AT_HAND * paged_rows::STEP_ROOM;
 
 // All that is left, part by part.
 fn print_parts(first: Printing, rows: &mut [u32], text: &mut [u8])

@@ -1,3 +1,2 @@
--- What the proofs of the rows share.
-pub mod PutRows
+-- What the proof of the rows that are taken cites.
 pub mod TakeRows

@@ -16,7 +16,7 @@ use Rattle.page_laws.specs.Rows.{length-join}
 use Rattle.cursor.specs.Left.{left, OnList, Handed}
 use Rattle.cursor.specs.declared.reading.Cursor.{Cursor}
 use Rattle.cursor.specs.declared.reading.Portion.{Portion}
-use Rattle.listing_rows.specs.Printed.{some}
+use Rattle.paged_rows.specs.Printed.{some}
 use Rattle.listing_rows.specs.Taken.{HandedWithin, those-wide}
 
 some-any : (l : List (List ℕ)) → ltb 0 (length l) ≡ some l

@@ -1,4 +1,2 @@
--- The rows of a list as they are printed: what the contracts cite, and the laws that their proofs and the parts rest on.
-pub mod Printed
-pub mod Room
+-- The rows that are taken: what the contract cites, and its laws.
 pub mod Taken

@@ -11,7 +11,7 @@ use Rattle.cursor.specs.Left.{left, passed, OnList}
 use Rattle.cursor.specs.Turns.{left-wide}
 use Rattle.cursor.specs.declared.reading.Cursor.{Cursor}
 use Rattle.cursor.specs.declared.reading.Portion.{Portion}
-use Rattle.listing_rows.specs.Printed.{some}
+use Rattle.paged_rows.specs.Printed.{some}
 
 -- The next rows handed out, at most so many, over the front of the slice s that is t now.
 pub record HandedWithin (c : Cursor) (most : ℕ) (s : List ℕ) (r : Portion) (t : List ℕ) : Type 0 where

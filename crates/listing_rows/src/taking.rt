@@ -4,12 +4,12 @@ ghost use Prim.Native.Nat.{_*_, _/_, _≤_, min};
 ghost use lib.ListN.{length};
 ghost use Rattle.definitions.specs.Ranking.{rowWidth};
 ghost use Rattle.cursor.specs.Left.{OnList};
-ghost use Rattle.listing_rows.specs.Room.{stepRoom};
+ghost use Rattle.paged_rows.specs.Room.{stepRoom};
 ghost use Rattle.listing_rows.specs.Taken.{HandedWithin};
-use crate::STEP_ROOM;
 use cursor::reading;
 use cursor::reading::Cursor;
 use cursor::reading::Portion;
+use paged_rows::STEP_ROOM;
 
 // How many rows fit: each takes `width` numbers, and with the line of its page so many bytes.
 pub fn how_many(numbers: usize, width: usize, bytes: usize) -> usize

@@ -8,7 +8,7 @@ use Rattle.search.specs.Frame.{LawfulList}
 use Rattle.cursor.specs.Left.{left, OnList}
 use Rattle.cursor.specs.declared.reading.Cursor.{Cursor}
 use Rattle.page_line.specs.Due.{mostRows}
-use Rattle.listing_rows.specs.Printed.{printedFrom}
+use Rattle.paged_rows.specs.Printed.{printedFrom}
 use Rattle.listing_start.specs.declared.Printing.{Printing}
 use Rattle.listing_start.specs.declared.Printing.the-variants.{Refused, Whole, Rows, Total, Nothing}
 

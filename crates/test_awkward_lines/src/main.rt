@@ -3,7 +3,7 @@
 // newline stand in the file `stdin`, the others here.
 use limits::LONGEST_ROW;
 use listing_program::program;
-use listing_rows::STEP_ROOM;
+use paged_rows::STEP_ROOM;
 
 fn print(line: &[u8]) {
     program::print(line, LONGEST_ROW, STEP_ROOM);

@@ -6,7 +6,7 @@ use borrow.Author.Needs.{needs}
 use Rattle.definitions.specs.Listing.{refusedText, headerText, totalText}
 use Rattle.slice_laws.specs.Over.{over-nothing}
 use Rattle.slice_laws.specs.Place.{put-front}
-use Rattle.listing_rows.specs.Room.{refused-room, header-room, total-room}
+use Rattle.paged_rows.specs.Room.{refused-room, header-room, total-room}
 use Rattle.cursor.specs.declared.reading.Cursor.{Cursor}
 use Rattle.listing_start.specs.declared.Printing.the-variants.{Refused, Whole, Rows, Total, Nothing}
 use Rattle.listing_parts.proofs.Front.{line-part}

@@ -9,7 +9,7 @@ use lib.ListN.{length}
 use borrow.Author.Needs.{needs}
 use Rattle.definitions.specs.Ranking.{rowWidth, longestRow}
 use Rattle.search.specs.Frame.{width-most}
-use Rattle.listing_rows.specs.Room.{stepRoom}
+use Rattle.paged_rows.specs.Room.{stepRoom}
 use Rattle.listing_rows.specs.Taken.{HandedWithin}
 use Rattle.listing_start.specs.declared.Printing.{Printing}
 use Rattle.listing_start.specs.declared.Printing.the-variants.{Rows}

@@ -6,7 +6,7 @@ use Prim.Native.Nat.{ℕ, _≤_, _<_}
 use native.Mathlib.Omega.{arith}
 use lib.ListN.{length}
 use borrow.Author.Needs.{needs}
-use Rattle.listing_rows.specs.Room.{stepRoom}
+use Rattle.paged_rows.specs.Room.{stepRoom}
 use Rattle.listing_start.specs.Left.{Underway, rowRoom}
 use Rattle.listing_parts.specs.Parts.{rowsThatFit, toGo, part-underway, part-falls, rowsThatFit-some, row-room-most, put-part}
 use Rattle.listing_program.proofs.program.print_parts.Statement.{statement}

@@ -1,4 +1,4 @@
--- `listing_rows::putting::put_rows` puts rows with the lines of their pages one behind the other. The invariant: what is put and the text of the rows
+-- `paged_rows::putting::put_rows` puts rows with the lines of their pages one behind the other. The invariant: what is put and the text of the rows
 -- that are left are the whole text. The measure is how many rows are left. Assumes nothing.
 use Prim.Native.Nat.{suc, _+_, _-_, _*_, _≤_}
 use native.Mathlib.Nat.{mul-le-mul-right}
@@ -7,10 +7,10 @@ use denote.Ref.{now}
 use lib.ListN.{length}
 use borrow.Author.Needs.{needs}
 use Rattle.definitions.specs.Ranking.{longestRow}
-use Rattle.listing_rows.specs.Room.{stepRoom}
-use Rattle.listing_rows.proofs.PutRows.{PutTo, put-start, put-turn, put-end, row-within, row-cut, row-wide}
-use Rattle.listing_rows.proofs.putting.put_rows.Statement.{statement}
-use Rattle.listing_rows.proofs.putting.put_rows.Tie as tie
+use Rattle.paged_rows.specs.Room.{stepRoom}
+use Rattle.paged_rows.proofs.PutRows.{PutTo, put-start, put-turn, put-end, row-within, row-cut, row-wide}
+use Rattle.paged_rows.proofs.putting.put_rows.Statement.{statement}
+use Rattle.paged_rows.proofs.putting.put_rows.Tie as tie
 
 abbrev Inv-loop : tie.InvT-loop
 Inv-loop text₀ rows width count size done further at₀ i₀ text at i = PutTo width count size done further rows text₀ text at i

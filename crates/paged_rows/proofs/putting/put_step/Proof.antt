@@ -1,12 +1,12 @@
--- `listing_rows::putting::put_step` puts a row and the line of its page behind each other. Assumes nothing.
+-- `paged_rows::putting::put_step` puts a row and the line of its page behind each other. Assumes nothing.
 use Prim.Native.Nat.{ℕ}
 use native.Mathlib.Omega.{arith}
 use denote.Ref.{now}
 use borrow.Author.Needs.{needs}
-use Rattle.listing_rows.specs.Room.{step-room}
-use Rattle.listing_rows.proofs.PutRows.{step-put}
-use Rattle.listing_rows.proofs.putting.put_step.Statement.{statement}
-use Rattle.listing_rows.proofs.putting.put_step.Tie as tie
+use Rattle.paged_rows.specs.Room.{step-room}
+use Rattle.paged_rows.proofs.PutRows.{step-put}
+use Rattle.paged_rows.proofs.putting.put_step.Statement.{statement}
+use Rattle.paged_rows.proofs.putting.put_step.Tie as tie
 
 returns : tie.Need-returns
 returns c =

@@ -7,8 +7,8 @@ ghost use Rattle.definitions.specs.Number.{over};
 ghost use Rattle.definitions.specs.Ranking.{longestRow};
 ghost use Rattle.page_laws.specs.Rows.{rowsOf};
 ghost use Rattle.page_line.specs.Due.{mostRows};
-ghost use Rattle.listing_rows.specs.Printed.{stepText, rowsText};
-ghost use Rattle.listing_rows.specs.Room.{stepRoom};
+ghost use Rattle.paged_rows.specs.Printed.{stepText, rowsText};
+ghost use Rattle.paged_rows.specs.Room.{stepRoom};
 use page_line::due::put_due;
 
 // A row, and the line of its page where that ends.

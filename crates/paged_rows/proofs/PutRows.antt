@@ -17,8 +17,8 @@ use Rattle.slice_laws.specs.Over.{over-nothing, over-append, over-then, over-th
 use Rattle.slice_laws.specs.Place.{placed, behind, placed-fits, behind-fits}
 use Rattle.page_laws.specs.Rows.{rowsOf, length-rows, row-at}
 use Rattle.page_line.specs.Due.{dueText}
-use Rattle.listing_rows.specs.Printed.{some, stepText, rowsText}
-use Rattle.listing_rows.specs.Room.{stepRoom}
+use Rattle.paged_rows.specs.Printed.{some, stepText, rowsText}
+use Rattle.paged_rows.specs.Room.{stepRoom}
 
 -- ---- a row and the line of its page
 

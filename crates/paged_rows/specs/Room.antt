@@ -17,7 +17,7 @@ use Rattle.row_text.specs.Rows.{rowBytes, row-none, row-some}
 use Rattle.page_line.specs.Texts.{page-line}
 use Rattle.page_line.specs.Due.{mostRows, dueText, due-true, due-false}
 use Rattle.list_lines.specs.Texts.{header-line, total-line, refused-length, refused-short}
-use Rattle.listing_rows.specs.Printed.{stepText}
+use Rattle.paged_rows.specs.Printed.{stepText}
 
 -- The most bytes of a row and of the line of its page.
 abbrev pub stepRoom : ℕ
