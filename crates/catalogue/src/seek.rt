@@ -1,7 +1,6 @@
 // Where a degree's body lies in a catalogue that comes unchecked.
 use catalogue_bytes::bytes;
 use catalogue_bytes::sizes;
-use catalogue_form::entries;
 use definitions::Refusal;
 ghost use mathlib.Core.Path.{_≡_};
 ghost use Prim.Native.Nat.{_≤_};
@@ -57,10 +56,10 @@ pub fn locate(file: &[u8], degree: u32) -> Located
     if place == 0 {
         return Located::Missing(Refusal::DegreeMissing);
     }
-    let e = entries::entry_at(file, place);
+    let e = entry_reading::entry_at(file, place);
     Located::At(BodyPlace {
         offset: e.offset as usize,
-        size: entries::body_size(e),
+        size: entry_reading::body_size(e),
         stride: sizes::row_size(e.degree, e.top, e.gaps),
         top: e.top,
         gaps: e.gaps,

@@ -1,6 +1,5 @@
-// Whether bytes are a catalogue: rows, entries, and the form of the whole. The bytes come unchecked.
+// Whether bytes are a catalogue: the form of its entries, and of the whole. The bytes come unchecked.
 pub mod entries;
-pub mod rows;
 
 use catalogue_bytes::bytes;
 ghost use mathlib.Core.Path.{_≡_};
@@ -19,7 +18,7 @@ pub fn catalogue_form(s: &[u8]) -> bool
     if n > MOST_ENTRIES {
         return false;
     }
-    let end = entries::contents_end(s, n);
+    let end = entry_reading::contents_end(s, n);
     if s.len() < end {
         return false;
     }

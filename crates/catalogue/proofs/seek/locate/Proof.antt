@@ -14,7 +14,7 @@ use Rattle.answer_laws.specs.Unless.{NoneApplies}
 use Rattle.catalogue_laws.specs.Form.{CatalogueForm, catalogue-form}
 use Rattle.catalogue_laws.specs.Lookup.{FoundEntry}
 use Rattle.catalogue_laws.specs.Outcome.{entryFor, looking-degree, looking-form, looking-missing, looking-finds, looking-found}
-use Rattle.catalogue_form.specs.Entries.{asEntry}
+use Rattle.entry_reading.specs.Entries.{asEntry}
 use Rattle.catalogue.specs.Seek.{placeOf, locating-refused, locating-given}
 use Rattle.catalogue.specs.declared.seek.Located.the-variants.{At}
 use Rattle.catalogue.proofs.seek.locate.Statement.{statement}

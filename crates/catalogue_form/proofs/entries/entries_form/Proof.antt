@@ -10,7 +10,7 @@ use borrow.Author.Tests.{not-true, not-false}
 use borrow.Author.Needs.{needs}
 use Rattle.definitions.specs.Catalogue.{Entry, firstEntry, behindEntry, behindEntries, bodySize, entryForm, entriesForm}
 use Rattle.catalogue_laws.specs.Form.{entry-tests, entry-within, behind-first, behind-on, behind-step, entries-end, entries-step, entries-stop}
-use Rattle.catalogue_form.specs.Entries.{asEntry}
+use Rattle.entry_reading.specs.Entries.{asEntry}
 use Rattle.catalogue_form.proofs.entries.entries_form.Statement.{statement}
 use Rattle.catalogue_form.proofs.entries.entries_form.Tie as tie
 

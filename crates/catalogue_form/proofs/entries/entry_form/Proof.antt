@@ -12,7 +12,7 @@ use Rattle.definitions.specs.Ranking.{lawfulTop}
 use Rattle.definitions.specs.Catalogue.{Entry, bodySize}
 use Rattle.number_laws.specs.Bounds.{LawfulDegree, LawfulTop, lawfulDegree-is, lawfulTop-is, lead-is}
 use Rattle.catalogue_laws.specs.Form.{entry-degree, entry-last, entry-top, entry-offset, entry-size, entry-rows}
-use Rattle.catalogue_form.specs.Entries.{asEntry}
+use Rattle.entry_reading.specs.Entries.{asEntry}
 use Rattle.catalogue_form.proofs.entries.entry_form.Statement.{statement}
 use Rattle.catalogue_form.proofs.entries.entry_form.Tie as tie
 

@@ -1,4 +1,4 @@
-// Whether rows are of the form.
+// Whether the rows of a body are of the form. Customers call nothing here.
 use catalogue_bytes::bytes;
 use catalogue_bytes::sizes;
 ghost use mathlib.Core.Path.{_≡_};

@@ -1,4 +1,4 @@
--- `catalogue_form::entries::contents_end` meets its contract. The invariant: the place behind all entries is the one behind the `left` entries
+-- `entry_reading::contents_end` meets its contract. The invariant: the place behind all entries is the one behind the `left` entries
 -- from `place` on, and there is room for these at ten bytes each. Assumes nothing.
 use mathlib.Core.Path.{_≡_, refl, sym, ap, _∙_}
 use mathlib.Core.List.{List}
@@ -8,8 +8,8 @@ use borrow.Author.Needs.{needs}
 use Rattle.definitions.specs.Catalogue.{entrySize, firstEntry, mostEntries, behindEntry, behindEntries}
 use Rattle.catalogue_laws.specs.Sizes.{entry-size-most}
 use Rattle.catalogue_laws.specs.Form.{behind-none, behind-on}
-use Rattle.catalogue_form.proofs.entries.contents_end.Statement.{statement}
-use Rattle.catalogue_form.proofs.entries.contents_end.Tie as tie
+use Rattle.entry_reading.proofs.contents_end.Statement.{statement}
+use Rattle.entry_reading.proofs.contents_end.Tie as tie
 
 abbrev RestEnds : tie.InvT-loop
 RestEnds s n left₀ place₀ left place =

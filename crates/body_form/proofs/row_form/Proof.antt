@@ -1,4 +1,4 @@
--- `catalogue_form::rows::row_form` meets its contract: the numbers decide where they fail, else the t-values do. Assumes nothing.
+-- `body_form::row_form` meets its contract: the numbers decide where they fail, else the t-values do. Assumes nothing.
 use mathlib.Core.Path.{_≡_, sym, ap, _∙_}
 use Prim.Native.Nat.{ℕ, _+_, _*_, _≤_}
 use native.Mathlib.Omega.{arith}
@@ -6,8 +6,8 @@ use lib.ListN.{length}
 use borrow.Author.Tests.{not-true, not-false}
 use borrow.Author.Needs.{needs}
 use Rattle.catalogue_laws.specs.Form.{numbersForm, numbers-form-is, values-form-is, row-stop, row-values}
-use Rattle.catalogue_form.proofs.rows.row_form.Statement.{statement}
-use Rattle.catalogue_form.proofs.rows.row_form.Tie as tie
+use Rattle.body_form.proofs.row_form.Statement.{statement}
+use Rattle.body_form.proofs.row_form.Tie as tie
 
 abbrev start : tie.After-number-size → tie.Start
 start c = c .before .before

@@ -1,4 +1,4 @@
--- `catalogue_form::rows::rows_form` meets its contract. The invariant: the rows behind the first `left` are of the form, so the first `left`
+-- `body_form::rows_form` meets its contract. The invariant: the rows behind the first `left` are of the form, so the first `left`
 -- decide, and `place` lies behind these. Assumes nothing.
 use mathlib.Core.Path.{_≡_, refl, sym, ap, _∙_}
 use Prim.Native.Nat.{ℕ, _+_, _-_, _*_, _≤_}
@@ -11,8 +11,8 @@ use Rattle.definitions.specs.Catalogue.{rowSize, rowForm}
 use Rattle.number_laws.specs.Every.{every-none, every-on, every-stop}
 use Rattle.catalogue_laws.specs.Sizes.{BackTurn, back-turn, row-size-is}
 use Rattle.catalogue_laws.specs.Form.{rowsForm}
-use Rattle.catalogue_form.proofs.rows.rows_form.Statement.{statement}
-use Rattle.catalogue_form.proofs.rows.rows_form.Tie as tie
+use Rattle.body_form.proofs.rows_form.Statement.{statement}
+use Rattle.body_form.proofs.rows_form.Tie as tie
 
 abbrev FirstDecide : tie.InvT-loop
 FirstDecide s rows degree limit top gaps at size left₀ place₀ left place =

@@ -1,4 +1,4 @@
--- `catalogue_form::entries::entry_at` meets its contract, field by field; the fields lie within the file, since the entry does.
+-- `entry_reading::entry_at` meets its contract, field by field; the fields lie within the file, since the entry does.
 -- Assumes nothing.
 use mathlib.Core.Path.{ap, _∙_}
 use Prim.Native.Nat.{ℕ, _+_, _≤_}
@@ -8,8 +8,8 @@ use borrow.Author.Needs.{needs}
 use Rattle.definitions.specs.Catalogue.{byteAt, numberAt, offsetSize, gapsOf, topOf}
 use Rattle.catalogue_laws.specs.Sizes.{entry-size-least}
 use Rattle.catalogue_laws.specs.Form.{entry-at-is, entry-whole}
-use Rattle.catalogue_form.proofs.entries.entry_at.Statement.{statement}
-use Rattle.catalogue_form.proofs.entries.entry_at.Tie as tie
+use Rattle.entry_reading.proofs.entry_at.Statement.{statement}
+use Rattle.entry_reading.proofs.entry_at.Tie as tie
 
 abbrev start : tie.After-count-size → tie.Start
 start c = c .before .before .before

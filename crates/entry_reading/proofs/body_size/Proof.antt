@@ -1,11 +1,11 @@
--- `catalogue_form::entries::body_size` meets its contract. Assumes nothing.
+-- `entry_reading::body_size` meets its contract. Assumes nothing.
 use mathlib.Core.Path.{ap}
 use Prim.Native.Nat.{ℕ, _*_}
 use native.Mathlib.Omega.{arith}
 use borrow.Author.Needs.{needs}
 use Rattle.catalogue_laws.specs.Sizes.{body-size-fits}
-use Rattle.catalogue_form.proofs.entries.body_size.Statement.{statement}
-use Rattle.catalogue_form.proofs.entries.body_size.Tie as tie
+use Rattle.entry_reading.proofs.body_size.Statement.{statement}
+use Rattle.entry_reading.proofs.body_size.Tie as tie
 
 mul-result : tie.Need-mul-result
 mul-result c =

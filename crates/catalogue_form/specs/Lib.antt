@@ -1,2 +1,0 @@
--- What the contracts of the form's functions cite.
-pub mod Entries
