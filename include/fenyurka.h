@@ -4,7 +4,7 @@
  *
  * Proved for every input: each function returns, and its result and every element of a buffer equal the definition
  * (crates/definitions; for the structs the specs of crates/answers, crates/pair_results, crates/slice_results,
- * crates/catalogue_results, crates/row_results, crates/interface and crates/catalogue).
+ * crates/catalogue_results, crates/row_results, crates/interface and crates/catalogue_seek).
  *
  * Polynomials are numbers: bit i is the coefficient of x^i, so 11 is x^3 + x + 1. A generator is a pair (p, q) with p of degree
  * m (2 to 16) and 1 <= q < 2^m. You need not check numbers before a call: any 32-bit value is allowed for any number.

@@ -1,11 +1,9 @@
 // A customer's catalogue: open it, look a degree up. The bytes come unchecked, and a file's form is tested once a call.
-pub mod seek;
-
 use catalogue_bytes::bytes;
+use catalogue_seek::Located;
 use definitions::Lookup;
 use definitions::Opening;
 use definitions::Refusal;
-use seek::Located;
 ghost use mathlib.Core.Path.{_≡_};
 ghost use Rattle.definitions.specs.Catalogue.{opening, lookupNumbers, lookupPart};
 
@@ -23,7 +21,7 @@ pub fn open(file: &[u8]) -> Opening
 pub fn lookup(file: &[u8], degree: u32) -> Lookup
     ensures { λ r. ⌜ r ≡ lookupNumbers (now (file .entry)) degree ⌝ }
 {
-    match seek::locate(file, degree) {
+    match catalogue_seek::locate(file, degree) {
         Located::At(found) => {
             let top = found.top;
             let gaps = found.gaps;
@@ -38,7 +36,7 @@ pub fn lookup(file: &[u8], degree: u32) -> Lookup
 pub fn body(file: &[u8], degree: u32) -> &[u8]
     ensures { λ r. ⌜ now r ≡ lookupPart (now (file .entry)) degree ⌝ }
 {
-    match seek::locate(file, degree) {
+    match catalogue_seek::locate(file, degree) {
         Located::At(found) => {
             let from = found.offset;
             let to = from + found.size;

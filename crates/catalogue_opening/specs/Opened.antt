@@ -9,9 +9,9 @@ use lib.ListN.{length, take, drop}
 use Rattle.definitions.specs.Answers.{refusalNumber}
 use Rattle.definitions.specs.Catalogue.{lookupPart, readerRefusal, readerTop, readerGaps}
 use Rattle.definitions.specs.declared.Refusal.{Refusal}
-use Rattle.catalogue.specs.Seek.{locating, partOf, refusalOf, topOf, gapsOf, located-part, located-refusal, located-top, located-gaps, located-lawful}
-use Rattle.catalogue.specs.declared.seek.BodyPlace.{BodyPlace}
-use Rattle.catalogue.specs.declared.seek.Located.the-variants.{At, Missing}
+use Rattle.catalogue_seek.specs.Seek.{locating, partOf, refusalOf, topOf, gapsOf, located-part, located-refusal, located-top, located-gaps, located-lawful}
+use Rattle.catalogue_seek.specs.declared.BodyPlace.{BodyPlace}
+use Rattle.catalogue_seek.specs.declared.Located.the-variants.{At, Missing}
 use Rattle.catalogue_opening.specs.declared.OpenedPart.{OpenedPart}
 
 pub record Opened (s : List ℕ) (m : ℕ) (o : OpenedPart) : Type 0 where

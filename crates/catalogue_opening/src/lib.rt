@@ -1,6 +1,5 @@
 // What a reader is opened with: the number of the refusal, and the place of its body in the file, with T and the kind. Customers call nothing here.
-use catalogue::seek;
-use catalogue::seek::Located;
+use catalogue_seek::Located;
 ghost use Rattle.catalogue_opening.specs.Opened.{Opened};
 
 // The number of the refusal, 0 where there is none; the part's place in the file, its size, T, and whether the rows have Δ.
@@ -16,7 +15,7 @@ pub struct OpenedPart {
 pub fn opened(file: &[u8], degree: u32) -> OpenedPart
     ensures { λ r. ⌜ Opened (now (file .entry)) degree r ⌝ }
 {
-    match seek::locate(file, degree) {
+    match catalogue_seek::locate(file, degree) {
         Located::At(found) => OpenedPart {
             refusal: 0,
             offset: found.offset,

@@ -4,8 +4,8 @@ use mathlib.Core.List.{List}
 use Prim.Native.Nat.{ℕ}
 use Rattle.definitions.specs.Answers.{refusalNumber}
 use Rattle.definitions.specs.Number.{bit}
-use Rattle.catalogue.specs.declared.seek.Located.{Located}
-use Rattle.catalogue.specs.declared.seek.Located.the-variants.{At, Missing}
+use Rattle.catalogue_seek.specs.declared.Located.{Located}
+use Rattle.catalogue_seek.specs.declared.Located.the-variants.{At, Missing}
 use Rattle.answers.specs.Values.{value}
 use Rattle.catalogue_results.specs.declared.FenyurkaCatalogue.{FenyurkaCatalogue}
 use Rattle.catalogue_results.specs.declared.FenyurkaBody.{FenyurkaBody}

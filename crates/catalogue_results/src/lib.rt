@@ -1,5 +1,5 @@
 // Answers about catalogues as structs that C takes by value: an opening, a degree's body, a file that was written.
-use catalogue::seek::Located;
+use catalogue_seek::Located;
 use definitions::FileAnswer;
 use definitions::Opening;
 ghost use mathlib.Core.Path.{_≡_};

@@ -7,9 +7,9 @@ use native.Mathlib.Omega.{arith}
 use lib.ListN.{length, take, drop}
 use Rattle.definitions.specs.Answers.{lookupValues}
 use Rattle.definitions.specs.Catalogue.{lookupNumbers, lookupPart}
-use Rattle.catalogue.specs.declared.seek.Located.{Located}
-use Rattle.catalogue.specs.declared.seek.Located.the-variants.{At, Missing}
-use Rattle.catalogue.specs.Seek as seek
+use Rattle.catalogue_seek.specs.declared.Located.{Located}
+use Rattle.catalogue_seek.specs.declared.Located.the-variants.{At, Missing}
+use Rattle.catalogue_seek.specs.Seek as seek
 use Rattle.answers.specs.Values.{value}
 use Rattle.catalogue_results.specs.Results.{bodyResult}
 use Rattle.catalogue_results.specs.declared.FenyurkaBody.{FenyurkaBody}

@@ -12,7 +12,6 @@ ghost use Rattle.slice_results.specs.Results.{pageResult, pointsResult};
 ghost use Rattle.catalogue_results.specs.Results.{catalogueResult, fileResult};
 ghost use Rattle.interface.specs.Requests.{pageOf, rowAtPlace};
 ghost use Rattle.interface.specs.Located.{located};
-use catalogue::seek;
 use catalogue_results::FenyurkaBody;
 use catalogue_results::FenyurkaCatalogue;
 use catalogue_results::FenyurkaFile;
@@ -146,7 +145,7 @@ pub extern "C" fn fenyurka_open(file: &[u8]) -> FenyurkaCatalogue
 pub extern "C" fn fenyurka_lookup(file: &[u8], degree: u32) -> FenyurkaBody
     ensures { λ r. ⌜ r ≡ located (now (file .entry)) degree ⌝ }
 {
-    catalogue_results::body(seek::locate(file, degree))
+    catalogue_results::body(catalogue_seek::locate(file, degree))
 }
 
 // The row at a place of a body and the place behind it, or the end.

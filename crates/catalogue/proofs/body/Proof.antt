@@ -5,9 +5,9 @@ use Prim.Native.Nat.{ℕ, _+_, _-_}
 use native.Mathlib.Omega.{arith}
 use lib.ListN.{take, drop}
 use borrow.Author.Needs.{needs}
-use Rattle.catalogue.specs.Seek.{locating, partOf, located-part, LawfulPlace, located-lawful}
-use Rattle.catalogue.specs.declared.seek.BodyPlace.{BodyPlace}
-use Rattle.catalogue.specs.declared.seek.Located.the-variants.{At}
+use Rattle.catalogue_seek.specs.Seek.{locating, partOf, located-part, LawfulPlace, located-lawful}
+use Rattle.catalogue_seek.specs.declared.BodyPlace.{BodyPlace}
+use Rattle.catalogue_seek.specs.declared.Located.the-variants.{At}
 use Rattle.catalogue.proofs.body.Statement.{statement}
 use Rattle.catalogue.proofs.body.Tie as tie
 

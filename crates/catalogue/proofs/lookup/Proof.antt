@@ -1,7 +1,7 @@
 -- `catalogue::lookup` meets its contract: its answer is a function of where the body lies. Assumes nothing.
 use mathlib.Core.Path.{sym, ap, _∙_}
 use borrow.Author.Needs.{needs}
-use Rattle.catalogue.specs.Seek.{numbersOf, located-numbers}
+use Rattle.catalogue_seek.specs.Seek.{numbersOf, located-numbers}
 use Rattle.catalogue.proofs.lookup.Statement.{statement}
 use Rattle.catalogue.proofs.lookup.Tie as tie
 

@@ -1,4 +1,4 @@
--- `catalogue::seek::entry_of` meets its contract. The invariant: no entry before `place` has the degree, so the search goes on with the `left` from
+-- `catalogue_seek::entry_of` meets its contract. The invariant: no entry before `place` has the degree, so the search goes on with the `left` from
 -- there on, which are within the file. Assumes nothing.
 use mathlib.Core.Path.{_≡_, sym, ap, _∙_}
 use mathlib.Core.List.{List}
@@ -10,8 +10,8 @@ use Rattle.definitions.specs.Catalogue.{byteAt, entrySize, firstEntry, behindEn
 use Rattle.catalogue_laws.specs.Sizes.{entry-size-least}
 use Rattle.catalogue_laws.specs.Form.{behind-first, behind-on}
 use Rattle.catalogue_laws.specs.Lookup.{entry-of, look-end, look-stop, look-on}
-use Rattle.catalogue.proofs.seek.entry_of.Statement.{statement}
-use Rattle.catalogue.proofs.seek.entry_of.Tie as tie
+use Rattle.catalogue_seek.proofs.entry_of.Statement.{statement}
+use Rattle.catalogue_seek.proofs.entry_of.Tie as tie
 
 abbrev RestDecides : tie.InvT-loop
 RestDecides s degree left₀ place₀ left place = (behindEntries s left place ≤ length s) × (entryOf s degree ≡ entryFrom s left place degree)

@@ -14,9 +14,9 @@ use Rattle.definitions.specs.declared.Lookup.the-variants.{Body, NoBody}
 use Rattle.answer_laws.specs.Unless.{Decides, NoneApplies, unless-refused, unless-given, unless-map, told-given}
 use Rattle.number_laws.specs.Bounds.{LawfulTop}
 use Rattle.catalogue_laws.specs.Outcome.{entryFor, looking-found}
-use Rattle.catalogue.specs.declared.seek.BodyPlace.{BodyPlace}
-use Rattle.catalogue.specs.declared.seek.Located.{Located}
-use Rattle.catalogue.specs.declared.seek.Located.the-variants.{At, Missing}
+use Rattle.catalogue_seek.specs.declared.BodyPlace.{BodyPlace}
+use Rattle.catalogue_seek.specs.declared.Located.{Located}
+use Rattle.catalogue_seek.specs.declared.Located.the-variants.{At, Missing}
 
 -- The body of an entry.
 abbrev pub placeOf : Entry → BodyPlace

@@ -1,4 +1,4 @@
-// Where a degree's body lies in a catalogue that comes unchecked.
+// Where a degree's body lies in a catalogue that comes unchecked. Customers call nothing here.
 use catalogue_bytes::bytes;
 use catalogue_bytes::sizes;
 use definitions::Refusal;
@@ -6,7 +6,7 @@ ghost use mathlib.Core.Path.{_≡_};
 ghost use Prim.Native.Nat.{_≤_};
 ghost use lib.ListN.{length};
 ghost use Rattle.definitions.specs.Catalogue.{contentsEnd, entryOf};
-ghost use Rattle.catalogue.specs.Seek.{locating};
+ghost use Rattle.catalogue_seek.specs.Seek.{locating};
 
 // A body: its place in the file and its size, the size of a row (from one row to the next), the top dimension, whether the rows have Δ, and the row
 // count.

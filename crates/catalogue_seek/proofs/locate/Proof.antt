@@ -1,4 +1,4 @@
--- `catalogue::seek::locate` meets its contract: the refusals in their order, and behind the last of them an entry that is lawful and within the file.
+-- `catalogue_seek::locate` meets its contract: the refusals in their order, and behind the last of them an entry that is lawful and within the file.
 -- Assumes nothing.
 use mathlib.Core.Path.{_≡_, sym, ap, ap₂, _∙_, subst}
 use mathlib.Core.Bool.{true}
@@ -15,10 +15,10 @@ use Rattle.catalogue_laws.specs.Form.{CatalogueForm, catalogue-form}
 use Rattle.catalogue_laws.specs.Lookup.{FoundEntry}
 use Rattle.catalogue_laws.specs.Outcome.{entryFor, looking-degree, looking-form, looking-missing, looking-finds, looking-found}
 use Rattle.entry_reading.specs.Entries.{asEntry}
-use Rattle.catalogue.specs.Seek.{placeOf, locating-refused, locating-given}
-use Rattle.catalogue.specs.declared.seek.Located.the-variants.{At}
-use Rattle.catalogue.proofs.seek.locate.Statement.{statement}
-use Rattle.catalogue.proofs.seek.locate.Tie as tie
+use Rattle.catalogue_seek.specs.Seek.{placeOf, locating-refused, locating-given}
+use Rattle.catalogue_seek.specs.declared.Located.the-variants.{At}
+use Rattle.catalogue_seek.proofs.locate.Statement.{statement}
+use Rattle.catalogue_seek.proofs.locate.Tie as tie
 
 -- From behind each test to behind the one before it.
 abbrev start : tie.Else1 → tie.Start

@@ -1,0 +1,2 @@
+-- What the contract of `locate` cites.
+pub mod Seek
