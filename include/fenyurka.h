@@ -31,8 +31,8 @@
  * Later versions may add fields to structs; programs written in this way then have to be recompiled, and not changed.
  *
  * No function allocates memory, keeps a pointer, prints or has state, so calls with different buffers may run in parallel.
- * fenyurka_write needs less than 128 KB of stack, since it keeps a whole list there: mind this in a thread with a small stack. Any
- * other call needs less than 16 KB (13 KB for fenyurka_count_t_value, 9 KB for a page, 5 KB for fenyurka_points, 2 KB otherwise).
+ * fenyurka_write needs less than 136 KB of stack, since it keeps a whole list there: mind this in a thread with a small stack. Any
+ * other call needs less than 20 KB (18 KB for a page, 13 KB for fenyurka_count_t_value, 5 KB for fenyurka_points, 3 KB otherwise).
  * tests/c/stack.c measures this.
  *
  * Link with the archive that `rt staticlib interface` writes (x86-64 Linux). tests/c/declarations compares this file with its source.
