@@ -8,17 +8,12 @@ use native.Mathlib.Omega.{arith}
 use lib.ListN.{length, getD}
 use Rattle.definitions.specs.declared.Selection.{Selection}
 use Rattle.definitions.specs.Catalogue.{topOf, gapsOf}
-use Rattle.definitions.specs.Writing.{entriesOf, lawfulDegrees, lawfulTops}
+use Rattle.definitions.specs.Writing.{entriesOf}
 use Rattle.writing_laws.specs.RankedFile.{noEntry}
-use Rattle.catalogue_entries.specs.declared.Lawful.{Lawful}
 
 -- The entry at k.
 abbrev pub entryIn : ℕ → List ℕ → ℕ → Selection
 entryIn floor e k = getD (entriesOf floor e) k noEntry
-
--- What the tests of all degrees and of all T say.
-abbrev pub lawfulOf : List Selection → Lawful
-lawfulOf l = record { degrees = lawfulDegrees l; tops = lawfulTops l }
 
 module _ (floor : ℕ) where
   pub entries-length : (e : List ℕ) → length (entriesOf floor e) ≡ length e / 2 + length e % 2

@@ -18,7 +18,7 @@ pub fn write_entry(file: &mut [u8], at: usize, list: Selection, rows: u32, offse
 {
     let width = sizes::count_size(list.degree);
     file[at] = list.degree as u8;
-    file[at + sizes::TOP_OFFSET] = limits::marked_top(list.top, list.gaps) as u8;
+    file[at + sizes::TOP_OFFSET] = marks::marked_top(list.top, list.gaps) as u8;
     write_number(file, at + sizes::COUNT_OFFSET, width, rows);
     write_number(
         file,

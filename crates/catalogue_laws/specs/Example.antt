@@ -5,7 +5,7 @@ use mathlib.Core.Bool.{Bool, true, false}
 use mathlib.Core.List.{List, [], _∷_, map}
 use Prim.Native.Nat.{ℕ}
 use Rattle.definitions.specs.Ranking.{ranked}
-use Rattle.definitions.specs.Examples.{noFloor, calls}
+use Rattle.definitions.specs.Examples.{noFloor, calls, list-three}
 use Rattle.definitions.specs.Answers.{unless, nextRowValues}
 use Rattle.definitions.specs.Catalogue.{numberAt, numberSize, countSize, entrySize, rowSize, entryAt, behindEntries, rowForm, entryForm, entriesForm}
 use Rattle.definitions.specs.Catalogue.{catalogueForm, opening, entryFrom, entryOf, looking, lookupNumbers, lookupPart, readerTop, atRow, rowAt, nextRow}
@@ -62,7 +62,7 @@ list gaps = record { degree = 3; top = 4; gaps = gaps; rows = ranked (record { d
 
 pub printed-bytes : catalogueBytes (list false ∷ []) ≡ printed
 unfolding printed form bytesOf rowBytes bodyBytes entryBytes contentsBytes behindLists catalogueBytes
-printed-bytes = refl
+printed-bytes = rw list-three
 
 -- ---- the same list with Δ, which is 0 in each of its rows
 
@@ -84,9 +84,14 @@ pub gaps-numbers : lookupNumbers withGaps 3 ≡ Body 4 true 4
 unfolding withGaps form lookupNumbers
 gaps-numbers = refl
 
+list-gaps : list true .rows
+    ≡ (11 ∷ 4 ∷ 2 ∷ 1 ∷ 1 ∷ 0 ∷ []) ∷ (11 ∷ 7 ∷ 5 ∷ 1 ∷ 1 ∷ 0 ∷ []) ∷ (13 ∷ 5 ∷ 3 ∷ 1 ∷ 1 ∷ 0 ∷ []) ∷ (13 ∷ 7 ∷ 4 ∷ 1 ∷ 1 ∷ 0 ∷ []) ∷ []
+unfolding ranked calls
+list-gaps = refl
+
 pub gaps-bytes : catalogueBytes (list true ∷ []) ≡ withGaps
 unfolding withGaps form bytesOf rowBytes bodyBytes entryBytes contentsBytes behindLists catalogueBytes
-gaps-bytes = refl
+gaps-bytes = rw list-gaps
 
 -- A row's last byte is Δ, whatever it is.
 pub last-byte : map nextRowValues (handsOut 2 3 4 true (0 ∷ 3 ∷ 0 ∷ 4 ∷ 0 ∷ 2 ∷ 1 ∷ 1 ∷ 255 ∷ []) 0)

@@ -12,7 +12,7 @@ pub fn write(floor: u32, entries: &[u32], file: &mut [u8]) -> FileAnswer
     ensures { λ r. ⌜ r ≡ fileAnswer floor (now (entries .entry)) (now (file .entry)) ⌝ }
     ensures { λ _. ⌜ now (file .exit) ≡ fileBuffer floor (now (entries .entry)) (now (file .entry)) ⌝ }
 {
-    let lawful = catalogue_entries::are_lawful(floor, entries);
+    let lawful = entry_tests::are_lawful(floor, entries);
     if !lawful.degrees {
         return FileAnswer::NoFile(Refusal::WrongDegree);
     }
@@ -22,7 +22,7 @@ pub fn write(floor: u32, entries: &[u32], file: &mut [u8]) -> FileAnswer
     if !limits::is_lawful_floor(floor) {
         return FileAnswer::NoFile(Refusal::WrongFloor);
     }
-    if !catalogue_entries::do_ascend(floor, entries) {
+    if !entry_tests::do_ascend(floor, entries) {
         return FileAnswer::NoFile(Refusal::NotAscending);
     }
     let measured = take_measure(floor, entries);

@@ -12,7 +12,6 @@ ghost use Rattle.counting_laws.specs.Shapes.{everyShape};
 ghost use Rattle.counting_laws.specs.Points.{Digits, Built, Begun, fillsEvenly};
 use definitions::Refusal;
 use definitions::Uniformity;
-use generator::pair;
 use polynomial::digits;
 use polynomial::residues;
 use word_tables::word;
@@ -27,7 +26,7 @@ pub fn count_t_value(degree: u32, p: u32, q: u32, dimension: u32) -> Uniformity
     if !limits::is_lawful_dimension(dimension) {
         return Uniformity::Undefined(Refusal::WrongDimension);
     }
-    if !pair::is_well_formed(degree, p, q) {
+    if !verdicts::is_well_formed(degree, p, q) {
         return Uniformity::Undefined(Refusal::IllFormedPair);
     }
     let points = build_points(degree, p, q);

@@ -20,7 +20,7 @@ use Rattle.answer_laws.specs.Unless.{told-given}
 use Rattle.answer_laws.specs.Measured.{measured, given-counted, counted-uniformity}
 use Rattle.fraction_laws.specs.WellFormed.{WellFormed, wellFormed-is}
 use Rattle.net_laws.specs.Smallest.{SmallestNet}
-use Rattle.pair_results.specs.Results.{tValueResult}
+use Rattle.figure_results.specs.Results.{tValueResult}
 use Rattle.recount_line.specs.Printed.{recountRoom, recount-room}
 use Rattle.net.proofs.t_value.Reads as t-value
 use Rattle.counter.proofs.count_t_value.Reads as count-t-value

@@ -36,10 +36,11 @@ use Rattle.answer_laws.specs.Unless.{unless-given}
 use Rattle.answer_laws.specs.Together.{answered-both}
 use Rattle.answer_laws.specs.Lent.{page-answered, points-answered, file-answered}
 use Rattle.answers.specs.Values.{value}
-use Rattle.pair_results.specs.Results.{judgementResult, quotientsResult, tValueResult}
+use Rattle.pair_results.specs.Results.{judgementResult, quotientsResult}
+use Rattle.figure_results.specs.Results.{tValueResult}
 use Rattle.pair_results.specs.declared.FenyurkaJudgement.{FenyurkaJudgement}
 use Rattle.pair_results.specs.declared.FenyurkaQuotients.{FenyurkaQuotients}
-use Rattle.pair_results.specs.declared.FenyurkaTValue.{FenyurkaTValue}
+use Rattle.figure_results.specs.declared.FenyurkaTValue.{FenyurkaTValue}
 use Rattle.slice_results.specs.Results.{pageResult, pointsResult}
 use Rattle.slice_results.specs.declared.FenyurkaPage.{FenyurkaPage}
 use Rattle.slice_results.specs.declared.FenyurkaPoints.{FenyurkaPoints}

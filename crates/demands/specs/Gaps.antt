@@ -44,8 +44,8 @@ use Rattle.catalogue_laws.specs.OldForm.{oldCatalogueForm}
 use Rattle.catalogue_laws.specs.OldReading.{oldOpening, gaps-not-opened, oldReaderRefusal, gaps-not-read}
 use Rattle.catalogue_laws.specs.OldFiles.{written-new, written-old}
 use Rattle.writing_laws.specs.RankedFile.{LawfulEntries, noEntry, lists-lawful}
-use Rattle.pair_results.specs.Results.{gapsResult}
-use Rattle.pair_results.specs.declared.FenyurkaGaps.{FenyurkaGaps}
+use Rattle.figure_results.specs.Results.{gapsResult}
+use Rattle.figure_results.specs.declared.FenyurkaGaps.{FenyurkaGaps}
 use Rattle.gaps.proofs.sum_of_gaps.Reads as sum-of-gaps
 use Rattle.interface.proofs.fenyurka_sum_of_gaps.Reads as c-sum-of-gaps
 use Rattle.demands.specs.Demand1.{Exact, LowestGiven, numberOf, resolving-exact, resolving-lowest}

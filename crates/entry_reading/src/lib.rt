@@ -27,8 +27,8 @@ pub fn entry_at(s: &[u8], place: usize) -> Entry
     let number = bytes::byte(s, place + sizes::TOP_OFFSET);
     Entry {
         degree,
-        top: limits::top_of(number),
-        gaps: limits::has_gaps(number),
+        top: marks::top_of(number),
+        gaps: marks::has_gaps(number),
         rows: bytes::number(s, count, width),
         offset: bytes::number(s, count + width, sizes::OFFSET_SIZE),
     }

@@ -3,7 +3,6 @@ ghost use mathlib.Core.Path.{_≡_};
 ghost use Rattle.definitions.specs.Calls.{gapSum};
 use definitions::GapSum;
 use definitions::Refusal;
-use generator::pair;
 
 pub mod cubes; // in how many dimensions cubes of so many digits hold equally many points
 pub mod sum; // the gaps added up
@@ -15,7 +14,7 @@ pub fn sum_of_gaps(degree: u32, p: u32, q: u32) -> GapSum
     if !limits::is_lawful_degree(degree) {
         return GapSum::NoSum(Refusal::WrongDegree);
     }
-    if !pair::is_well_formed(degree, p, q) {
+    if !verdicts::is_well_formed(degree, p, q) {
         return GapSum::NoSum(Refusal::IllFormedPair);
     }
     GapSum::Sum(sum::resolution_gaps(degree, p, q))

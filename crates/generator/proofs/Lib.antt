@@ -1,3 +1,2 @@
 -- What the proofs of judging share.
 pub mod CommonDivisor
-pub mod Degrees

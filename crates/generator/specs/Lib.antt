@@ -1,3 +1,2 @@
 -- What the contracts cite, and the laws that the code's proofs cite.
 pub mod Judging
-pub mod Refusals

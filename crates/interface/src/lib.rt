@@ -7,7 +7,8 @@ ghost use Rattle.definitions.specs.Answers.{openingValues, fileValues};
 ghost use Rattle.definitions.specs.Calls.{judgement, quotientTest, uniformity, counted, gapSum, pageAnswer, pageSlice, pointsAnswer, pointsSlice};
 ghost use Rattle.definitions.specs.Catalogue.{opening};
 ghost use Rattle.definitions.specs.Writing.{fileAnswer, fileBuffer};
-ghost use Rattle.pair_results.specs.Results.{judgementResult, quotientsResult, tValueResult, gapsResult};
+ghost use Rattle.pair_results.specs.Results.{judgementResult, quotientsResult};
+ghost use Rattle.figure_results.specs.Results.{tValueResult, gapsResult};
 ghost use Rattle.slice_results.specs.Results.{pageResult, pointsResult};
 ghost use Rattle.catalogue_results.specs.Results.{catalogueResult, fileResult};
 ghost use Rattle.interface.specs.Requests.{pageOf, rowAtPlace};
@@ -18,10 +19,10 @@ use catalogue_results::FenyurkaFile;
 use definitions::PageRequest;
 use definitions::Position;
 use definitions::Selection;
-use pair_results::FenyurkaGaps;
+use figure_results::FenyurkaGaps;
+use figure_results::FenyurkaTValue;
 use pair_results::FenyurkaJudgement;
 use pair_results::FenyurkaQuotients;
-use pair_results::FenyurkaTValue;
 use row_results::FenyurkaRow;
 use slice_results::FenyurkaPage;
 use slice_results::FenyurkaPoints;
@@ -69,7 +70,7 @@ pub extern "C" fn fenyurka_quotients(degree: u32, p: u32, q: u32) -> FenyurkaQuo
 pub extern "C" fn fenyurka_t_value(degree: u32, p: u32, q: u32, dimension: u32) -> FenyurkaTValue
     ensures { λ r. ⌜ r ≡ tValueResult (uniformityValues (uniformity degree p q dimension)) ⌝ }
 {
-    pair_results::t_value(net::t_value(degree, p, q, dimension))
+    figure_results::t_value(net::t_value(degree, p, q, dimension))
 }
 
 // The same by the plain counter, for degrees 2 to 8.
@@ -82,7 +83,7 @@ pub extern "C" fn fenyurka_count_t_value(
 ) -> FenyurkaTValue
     ensures { λ r. ⌜ r ≡ tValueResult (uniformityValues (counted degree p q dimension)) ⌝ }
 {
-    pair_results::t_value(counter::count_t_value(degree, p, q, dimension))
+    figure_results::t_value(counter::count_t_value(degree, p, q, dimension))
 }
 
 // The sum of resolution gaps of a pair.
@@ -90,7 +91,7 @@ pub extern "C" fn fenyurka_count_t_value(
 pub extern "C" fn fenyurka_sum_of_gaps(degree: u32, p: u32, q: u32) -> FenyurkaGaps
     ensures { λ r. ⌜ r ≡ gapsResult (gapSumValues (gapSum degree p q)) ⌝ }
 {
-    pair_results::gaps(gaps::sum_of_gaps(degree, p, q))
+    figure_results::gaps(gaps::sum_of_gaps(degree, p, q))
 }
 
 // The first rows of a ranked list: how many, and whether a further row exists.

@@ -3,7 +3,6 @@ ghost use mathlib.Core.Path.{_≡_};
 ghost use Rattle.definitions.specs.Calls.{uniformity};
 use definitions::Refusal;
 use definitions::Uniformity;
-use generator::pair;
 
 pub mod bound; // how little can be to come of the digit rows
 pub mod values; // t-values of one pair, each from the one before
@@ -18,7 +17,7 @@ pub fn t_value(degree: u32, p: u32, q: u32, dimension: u32) -> Uniformity
     if !limits::is_lawful_dimension(dimension) {
         return Uniformity::Undefined(Refusal::WrongDimension);
     }
-    if !pair::is_well_formed(degree, p, q) {
+    if !verdicts::is_well_formed(degree, p, q) {
         return Uniformity::Undefined(Refusal::IllFormedPair);
     }
     let bound = bound::stop_bound(degree, p, q);

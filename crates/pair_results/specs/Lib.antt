@@ -1,2 +1,2 @@
--- What an answer about a pair is as a struct for C. Assumes nothing.
+-- What judging and the quotient test answer, as a struct for C. Assumes nothing.
 pub mod Results

@@ -17,9 +17,9 @@ use Rattle.definitions.specs.declared.PointsAnswer.the-variants.{Written, NotWr
 use Rattle.answer_laws.specs.Unless.{Decides, here, later, decides-front, decides-behind, NoneApplies, passes, at-end, none-append}
 use Rattle.answer_laws.specs.Together.{answered-refused, answered-given}
 use Rattle.answer_laws.specs.Lent.{answers-points}
-use Rattle.generator.specs.Judging.{pairVerdict}
-use Rattle.generator.specs.Refusals.{verdict-decides, verdict-passes}
-use Rattle.generator.specs.declared.pair.Verdict.the-variants.{Refused, Passed}
+use Rattle.verdicts.specs.Verdicts.{pairVerdict}
+use Rattle.verdicts.specs.Refusals.{verdict-decides, verdict-passes}
+use Rattle.verdicts.specs.declared.Verdict.the-variants.{Refused, Passed}
 
 -- From first up to the last index 2^m - 2.
 pub words-left : (m first lead : ℕ) (s : List ℕ) → lead ≡ 2 ^ m → 2 ≤ lead → first ≤ lead - 2

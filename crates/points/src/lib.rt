@@ -3,9 +3,8 @@ ghost use mathlib.Core.Path.{_≡_};
 ghost use Rattle.definitions.specs.Calls.{pointsAnswer, pointsSlice};
 use definitions::PointsAnswer;
 use definitions::Refusal;
-use generator::pair;
-use generator::pair::Verdict;
 use polynomial::digits;
+use verdicts::Verdict;
 use words::writing;
 
 // Writes words first, first + 1, .. until the slice or the period ends, and says how many; or the documents' refusal 1, 12, 3, 4, 5, 6, 11 or 8.
@@ -19,7 +18,7 @@ pub fn points(degree: u32, floor: u32, p: u32, q: u32, first: u32, out: &mut [u3
     if !limits::is_lawful_floor(floor) {
         return PointsAnswer::NotWritten(Refusal::WrongFloor);
     }
-    match pair::check_pair(degree, floor, p, q) {
+    match verdicts::check_pair(degree, floor, p, q) {
         Verdict::Refused(refusal) => PointsAnswer::NotWritten(refusal),
         Verdict::Passed => {
             let last = digits::leading_term(degree) - 2;

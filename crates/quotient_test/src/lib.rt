@@ -3,7 +3,6 @@ ghost use mathlib.Core.Path.{_≡_};
 ghost use Rattle.definitions.specs.Calls.{quotientTest};
 use definitions::QuotientTest;
 use definitions::Refusal;
-use generator::pair;
 
 // The largest degree among the partial quotients of q/p and the degree of the common factor, for every well-formed pair; or refusal 1 or 3.
 pub fn test_quotients(degree: u32, p: u32, q: u32) -> QuotientTest
@@ -12,7 +11,7 @@ pub fn test_quotients(degree: u32, p: u32, q: u32) -> QuotientTest
     if !limits::is_lawful_degree(degree) {
         return QuotientTest::Untested(Refusal::WrongDegree);
     }
-    if !pair::is_well_formed(degree, p, q) {
+    if !verdicts::is_well_formed(degree, p, q) {
         return QuotientTest::Untested(Refusal::IllFormedPair);
     }
     let degrees = quotient_degrees::quotient_degrees(p, q);

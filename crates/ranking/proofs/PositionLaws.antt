@@ -13,10 +13,10 @@ use Rattle.answer_laws.specs.Unless.{Decides, NoneApplies, at-end, unless-given
 use Rattle.fraction_laws.specs.WellFormed.{wellFormed-is}
 use Rattle.ranking_laws.specs.Met.{ruleOf}
 use Rattle.ranking_laws.specs.Reading.{ListedPosition, at-start, after-listed}
-use Rattle.generator.specs.Judging.{pairVerdict}
-use Rattle.generator.specs.Refusals.{passed-well-formed, passed-accepted}
-use Rattle.generator.specs.declared.pair.Verdict.{Verdict}
-use Rattle.generator.specs.declared.pair.Verdict.the-variants.{Refused, Passed}
+use Rattle.verdicts.specs.Verdicts.{pairVerdict}
+use Rattle.verdicts.specs.Refusals.{passed-well-formed, passed-accepted}
+use Rattle.verdicts.specs.declared.Verdict.{Verdict}
+use Rattle.verdicts.specs.declared.Verdict.the-variants.{Refused, Passed}
 use Rattle.ranking.specs.Positions.{positionVerdict}
 
 module _ (m floor : ℕ) {at : Position} where

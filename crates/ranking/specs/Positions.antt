@@ -3,8 +3,8 @@ use Prim.Native.Nat.{ℕ}
 use Rattle.definitions.specs.Answers.{unless}
 use Rattle.definitions.specs.Calls.{positionSituations}
 use Rattle.definitions.specs.declared.Position.{Position}
-use Rattle.generator.specs.declared.pair.Verdict.{Verdict}
-use Rattle.generator.specs.declared.pair.Verdict.the-variants.{Refused, Passed}
+use Rattle.verdicts.specs.declared.Verdict.{Verdict}
+use Rattle.verdicts.specs.declared.Verdict.the-variants.{Refused, Passed}
 
 unfoldable pub positionVerdict : ℕ → ℕ → Position → Verdict
 positionVerdict m floor at = unless (positionSituations m floor at) Refused Passed

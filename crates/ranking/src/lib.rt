@@ -6,9 +6,9 @@ use definitions::PageRequest;
 use definitions::Position;
 use definitions::Refusal;
 use definitions::Selection;
-use generator::pair::Verdict;
 use page_rows::serve;
 use row_places::width_of;
+use verdicts::Verdict;
 
 pub mod position; // whether a position can be read from
 

@@ -3,8 +3,7 @@ ghost use mathlib.Core.Path.{_≡_};
 ghost use Rattle.number_laws.specs.Bounds.{LawfulDegree};
 ghost use Rattle.ranking.specs.Positions.{positionVerdict};
 use definitions::Position;
-use generator::pair;
-use generator::pair::Verdict;
+use verdicts::Verdict;
 
 // Why a position is refused, as its pair is, or that it is not.
 pub fn check_position(degree: u32, floor: u32, position: Position) -> Verdict
@@ -13,6 +12,6 @@ pub fn check_position(degree: u32, floor: u32, position: Position) -> Verdict
 {
     match position {
         Position::Start => Verdict::Passed,
-        Position::After(p, q) => pair::check_pair(degree, floor, p, q),
+        Position::After(p, q) => verdicts::check_pair(degree, floor, p, q),
     }
 }

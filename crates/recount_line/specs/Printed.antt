@@ -22,10 +22,11 @@ use Rattle.answer_laws.specs.Unless.{unless-refused, unless-given}
 use Rattle.answer_laws.specs.Measured.{given-counted, counted-uniformity}
 use Rattle.line.specs.LongLine.{numberBytes, line-cut}
 use Rattle.decimal_text.specs.Decimal.{ten-digits}
-use Rattle.text.specs.Lines.{longLine, long-length}
+use Rattle.text.specs.Lines.{long-length}
 use Rattle.list_lines.specs.Texts.{refused-short}
-use Rattle.pair_results.specs.Results.{tValueResult}
-use Rattle.pair_results.specs.declared.FenyurkaTValue.{FenyurkaTValue}
+use Rattle.engines_line.specs.BothLine.{both-line}
+use Rattle.figure_results.specs.Results.{tValueResult}
+use Rattle.figure_results.specs.declared.FenyurkaTValue.{FenyurkaTValue}
 
 -- ---- by the numbers of the line
 
@@ -77,10 +78,6 @@ module _ (s : List ℕ) {n : ℕ} (count : n ≡ length (numbersWithin asked s))
       go (m ∷ p ∷ q ∷ d ∷ k ∷ l) e h = absurd (omega arith)
 
 -- ---- by the answers
-
-pub both-line : (quick count : ℕ) → bothText quick count ≡ longLine (letters "quick ") quick (letters " count ") count (newline ∷ [])
-unfolding bothText
-both-line quick count = refl
 
 abbrev said : Refusal → List ℕ
 said r = refusedText (refusalNumber r)

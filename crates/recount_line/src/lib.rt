@@ -1,9 +1,8 @@
 // What the program `recount` prints for a line: the t-value of a pair by both engines, or a refusal. The text is put at a place of a buffer: where it
 // fits, the answer is the place behind it; where it does not, nothing is written and the answer is the place itself.
 ghost use mathlib.Core.Path.{_≡_};
-ghost use Rattle.definitions.specs.Recount.{bothText, pairText, recount};
+ghost use Rattle.definitions.specs.Recount.{pairText, recount};
 ghost use Rattle.slice_laws.specs.Place.{placed, behind};
-use text::lines::put_long_line;
 
 // A line's numbers: degree, p, q and dimension.
 const NUMBERS: usize = 4;
@@ -31,18 +30,10 @@ fn put_pair(out: &mut [u8], at: usize, degree: u32, p: u32, q: u32, dimension: u
     ensures { λ r. ⌜ r ≡ behind at (pairText degree p q dimension) (now (out .entry)) ⌝ }
     ensures { λ _. ⌜ now (out .exit) ≡ placed at (pairText degree p q dimension) (now (out .entry)) ⌝ }
 {
-    let count = pair_results::t_value(counter::count_t_value(degree, p, q, dimension));
+    let count = figure_results::t_value(counter::count_t_value(degree, p, q, dimension));
     if count.refusal != 0 {
         return list_lines::put_refused(out, at, count.refusal);
     }
-    let quick = pair_results::t_value(net::t_value(degree, p, q, dimension));
-    put_both(out, at, quick.t, count.t)
-}
-
-// Both t-values.
-fn put_both(out: &mut [u8], at: usize, quick: u32, count: u32) -> usize
-    ensures { λ r. ⌜ r ≡ behind at (bothText quick count) (now (out .entry)) ⌝ }
-    ensures { λ _. ⌜ now (out .exit) ≡ placed at (bothText quick count) (now (out .entry)) ⌝ }
-{
-    put_long_line(out, at, b"quick ", quick, b" count ", count, b"\n")
+    let quick = figure_results::t_value(net::t_value(degree, p, q, dimension));
+    engines_line::put_both(out, at, quick.t, count.t)
 }

@@ -1,61 +1,29 @@
-// What is printed with: each number behind a letter that says what it is, and single bytes.
+// What is printed of a row and of a refusal.
 use definitions::NextRow;
 use definitions::Refusal;
 use definitions::Row;
 ghost use mathlib.Core.Path.{_≡_};
 ghost use Rattle.test_catalogues.specs.Shown.{isRow};
 
-pub(crate) fn byte(b: u8) {
-    let one = [b; 1];
-    io::write_all(libc::STDOUT_FILENO, &one);
-}
-
-fn number(n: u64) {
-    byte(b' ');
-    io::print_decimal(libc::STDOUT_FILENO, n);
-}
-
-// A number, what it is, and the byte behind it.
-pub(crate) fn field(name: u8, n: u64, behind: u8) {
-    byte(name);
-    number(n);
-    byte(behind);
-}
-
 pub(crate) fn refused(refusal: Refusal) {
-    field(b'!', answers::refusal_number(refusal) as u64, b'\n');
+    streams::print_number(b" ! ", answers::refusal_number(refusal) as u64);
+    streams::new_line();
 }
 
-// A further number of a row.
-fn further(n: u32) {
-    number(n as u64);
-}
-
-// Δ, where it is not 0.
-fn gap_sum(n: u32) {
-    if n > 0 {
-        further(n);
-    }
-}
-
+// Δ stands behind the others where it is not 0.
 fn row(r: Row) {
-    byte(b'+');
-    further(r.p);
-    further(r.q);
-    further(r.step);
-    further(r.t3);
-    further(r.t4);
-    further(r.t5);
-    further(r.t6);
-    further(r.t7);
-    further(r.t8);
-    gap_sum(r.delta);
-    byte(b'\n');
+    streams::print_numbers(
+        b"+",
+        &[r.p, r.q, r.step, r.t3, r.t4, r.t5, r.t6, r.t7, r.t8],
+    );
+    if r.delta > 0 {
+        streams::print_number(b" ", r.delta as u64);
+    }
+    streams::new_line();
 }
 
 fn end() {
-    byte(b'.');
-    byte(b'\n');
+    io::write_all(libc::STDOUT_FILENO, b".\n");
 }
 
 // What a reader hands out, and whether it was a row.

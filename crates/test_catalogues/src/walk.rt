@@ -1,10 +1,10 @@
 // A reader, from its first row to its end.
-use crate::print::field;
 use crate::print::shown;
 
 // The number that a reader carries.
 fn opened(refusal: u32) {
-    field(b'R', refusal as u64, b'\n');
+    streams::print_number(b"R ", refusal as u64);
+    streams::new_line();
 }
 
 pub(crate) fn rows(file: &[u8], degree: u32) {

@@ -22,19 +22,14 @@ const FILE_ROOM: usize = 65536;
 
 const BEFORE: u8 = 165;
 
-fn new_line() {
-    io::write_all(STDOUT_FILENO, b"\n");
-}
-
 fn print_byte(byte: u8) {
     io::print_hex(STDOUT_FILENO, byte as u64, 2);
 }
 
-// A word and a number.
+// A word and a number, on a line.
 fn print_number(word: &[u8], n: usize) {
-    io::write_all(STDOUT_FILENO, word);
-    io::print_decimal(STDOUT_FILENO, n as u64);
-    new_line();
+    streams::print_number(word, n as u64);
+    streams::new_line();
 }
 
 // The first n bytes, and how many of the others are as they were.
@@ -45,7 +40,7 @@ fn print_buffer(file: &[u8], n: usize) {
         if k < n {
             print_byte(file[k]);
             if k % 32 == 31 {
-                new_line();
+                streams::new_line();
             }
         } else if file[k] == BEFORE {
             untouched += 1;
@@ -53,7 +48,7 @@ fn print_buffer(file: &[u8], n: usize) {
         k += 1;
     }
     if n % 32 > 0 {
-        new_line();
+        streams::new_line();
     }
     print_number(b"untouched ", untouched);
 }
@@ -88,7 +83,7 @@ fn write_line() {
     let mut input = [b'\n'; LINE_ROOM];
     let n = streams::read_line(&mut input);
     streams::write_front(STDOUT_FILENO, &input, n);
-    new_line();
+    streams::new_line();
     let mut numbers = [0u32; MOST_NUMBERS];
     let count = line::read_numbers(&input, &mut numbers);
     if count > 1 {

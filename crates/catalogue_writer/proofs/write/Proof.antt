@@ -10,7 +10,7 @@ use Rattle.definitions.specs.declared.Selection.{Selection}
 use Rattle.definitions.specs.Generator.{lawfulFloor}
 use Rattle.definitions.specs.Writing.{entriesOf, rankedFile, lawfulDegrees, lawfulTops, ascending}
 use Rattle.writing_laws.specs.RankedFile.{LawfulEntries, entries-lawful}
-use Rattle.catalogue_entries.specs.declared.Lawful.{Lawful}
+use Rattle.entry_tests.specs.declared.Lawful.{Lawful}
 use Rattle.catalogue_measure.specs.declared.Measure.{Measure}
 use Rattle.catalogue_writer.proofs.Answering as laws
 use Rattle.catalogue_writer.proofs.write.Statement.{statement}

@@ -8,9 +8,9 @@ use borrow.Author.Needs.{needs}
 use borrow.Author.Tests.{not-true, not-false}
 use Rattle.definitions.specs.Generator.{lawfulDegree, lawfulFloor}
 use Rattle.number_laws.specs.Bounds.{LawfulDegree, lawfulDegree-is, lead-low}
-use Rattle.generator.specs.Judging.{pairVerdict}
-use Rattle.generator.specs.Refusals.{passed-well-formed}
-use Rattle.generator.specs.declared.pair.Verdict.the-variants.{Passed}
+use Rattle.verdicts.specs.Verdicts.{pairVerdict}
+use Rattle.verdicts.specs.Refusals.{passed-well-formed}
+use Rattle.verdicts.specs.declared.Verdict.the-variants.{Passed}
 use Rattle.points.proofs.Answering.{wrong-degree, wrong-floor, answered-pair, answered-beyond, answered-written, words-left}
 use Rattle.points.proofs.points.Statement.{statement}
 use Rattle.points.proofs.points.Tie as tie

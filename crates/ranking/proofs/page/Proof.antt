@@ -7,7 +7,7 @@ use Rattle.definitions.specs.Calls.{selectionOf}
 use Rattle.definitions.specs.Generator.{lawfulDegree, lawfulFloor}
 use Rattle.definitions.specs.Ranking.{lawfulTop}
 use Rattle.number_laws.specs.Bounds.{lawfulDegree-is, lawfulTop-is}
-use Rattle.generator.specs.declared.pair.Verdict.the-variants.{Passed}
+use Rattle.verdicts.specs.declared.Verdict.the-variants.{Passed}
 use Rattle.search.specs.Frame.{LawfulList}
 use Rattle.ranking.specs.Positions.{positionVerdict}
 use Rattle.ranking.proofs.PageLaws as laws

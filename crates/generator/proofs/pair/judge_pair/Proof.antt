@@ -12,7 +12,8 @@ use Rattle.definitions.specs.declared.Judgement.the-variants.{Accepted, Rejecte
 use Rattle.number_laws.specs.Bounds.{lead-low}
 use Rattle.answer_laws.specs.Unless.{unless-refused, unless-given}
 use Rattle.fraction_laws.specs.WellFormed.{wellFormed-is}
-use Rattle.generator.specs.Judging.{Fit, pairJudgement, checked-refused, checked-fit, not-coprime, step-below, all-pass, coprimeStep-def}
+use Rattle.verdicts.specs.Verdicts.{Fit, checked-refused, checked-fit, not-coprime, step-below, all-pass}
+use Rattle.generator.specs.Judging.{pairJudgement, coprimeStep-def}
 use Rattle.generator.proofs.pair.judge_pair.Statement.{statement}
 use Rattle.generator.proofs.pair.judge_pair.Tie as tie
 

@@ -1,0 +1,2 @@
+-- The law that the code's proofs cite.
+pub mod BothLine

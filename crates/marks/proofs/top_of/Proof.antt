@@ -1,0 +1,13 @@
+-- `marks::top_of` meets its contract. Assumes nothing.
+use borrow.Author.Tests.{lt-leb, le-leb}
+use Rattle.marks.proofs.top_of.Statement.{statement}
+use Rattle.marks.proofs.top_of.Tie as tie
+
+returns : tie.Need-returns
+returns c = rw (le-leb _ _ (c .if1 .taken))
+
+returns-2 : tie.Need-returns-2
+returns-2 c = rw (lt-leb _ _ (c .if1 .left))
+
+pub top-of-spec : {M : Type 1} → statement M
+top-of-spec = tie.close (tie.spec returns returns-2)

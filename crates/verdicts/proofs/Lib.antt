@@ -1,0 +1,2 @@
+-- What the proofs of the tests share.
+pub mod Degrees
