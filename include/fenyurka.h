@@ -151,8 +151,8 @@ typedef struct FenyurkaPage {
  * t(3), then t(4), up to t(T), then by p, then by q. A row is T + 1 numbers: p, q, the step, t(3) .. t(T). If the list has `gaps`, a row is
  * T + 2 numbers, the last one the sum of gaps, and rows ascend by it after t(T) and before p. As many rows are written as fit into the
  * buffer and exist.
- * Each page costs one search over all pairs of the degree, however many rows are written: with T = 8, floor 0 and 50 rows 2.2 million
- * instructions for degree 10 and 306 million for degree 16 (docs/SPEED.md). If you need the whole list, pass a buffer that holds it.
+ * Each page costs one search over all pairs of the degree, however many rows are written: with T = 8, floor 0 and 50 rows 1.5 million
+ * instructions for degree 10 and 68 million for degree 16 (docs/SPEED.md). If you need the whole list, pass a buffer that holds it.
  * Refusals: 1, 2, 12, 7.
  */
 FenyurkaPage fenyurka_first_page(FenyurkaList list, uint32_t *rows, size_t rows_length);
