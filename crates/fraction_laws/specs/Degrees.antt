@@ -58,6 +58,7 @@ pub record LargestDegree (p q k : ℕ) : Type 0 where
 
 highest_most : (l : List ℕ) (a : ℕ) → Memᴰ a l → degree a ≤ highest l
 unfolding highest
+highest_most [] a i = elim i [ ]
 highest_most (x ∷ l) a (Memᴰ.head e) = omega (arith, ap degree e)
 highest_most (x ∷ l) a (Memᴰ.tail i) = omega (arith, highest_most l a i)
 

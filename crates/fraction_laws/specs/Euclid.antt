@@ -97,6 +97,7 @@ not_linear (a ∷ l) f =
     (λ t. (a, Memᴰ.head refl, λ h. eqb-false (degree a) 1 t (degree_unique a 1 h)))
 
 member_linear : {l : List ℕ} {a : ℕ} → Linear l → Memᴰ a l → HasDegree a 1
+member_linear Linear.none i = elim i [ ]
 member_linear (one h rest) (Memᴰ.head e) = rw e h
 member_linear (one h rest) (Memᴰ.tail i) = member_linear rest i
 

@@ -45,8 +45,9 @@ contains_out (y ∷ l) x t = go (eqb x y) refl t (contains_out l x)
     go false e t ih = Memᴰ.tail (ih t)
 
 -- What a test that all elements pass says of each.
-pub all_out : {X : Type 0} (test : X → Bool) {l : List X} {x : X} → all test l ≡ true → Memᴰ x l → test x ≡ true
+pub all_out : {X : Type 0} (test : X → Bool) {x : X} {l : List X} → all test l ≡ true → Memᴰ x l → test x ≡ true
 unfolding all
+all_out test {l = []} t m = elim m [ ]
 all_out test {l = y ∷ l} t (Memᴰ.head e) = ap test e ∙ ((and-eq-true_iff (test y) (all test l)).0 t).0
 all_out test {l = y ∷ l} t (Memᴰ.tail m) = all_out test ((and-eq-true_iff (test y) (all test l)).0 t).1 m
 
@@ -99,6 +100,7 @@ module _ {X : Type 0} (test : X → Bool) where
 
   pub keep_in : {x : X} {l : List X} → Memᴰ x l → test x ≡ true → Memᴰ x (keep test l)
   unfolding keep
+  keep_in {x = x} {l = []} m t = elim m [ ]
   keep_in {x} {l = y ∷ l} (Memᴰ.head e) t =
       subst (λ (b : Bool). Memᴰ x (put_if b y (keep test l))) (sym (ap test (sym e) ∙ t)) (Memᴰ.head e)
   keep_in {x} {l = y ∷ l} (Memᴰ.tail m) t = put_in (test y) y (keep_in m t)
@@ -128,6 +130,7 @@ map_once f (x ∷ l) apart n =
 -- Lists joined, one for each element of another list.
 module _ {X Y : Type 0} (f : X → List Y) where
   pub join_map_in : (l : List X) {x : X} {y : Y} → Memᴰ x l → Memᴰ y (f x) → Memᴰ y (join (map f l))
+  join_map_in [] m k = elim m [ ]
   join_map_in (z ∷ l) (Memᴰ.head e) k = Memᴰ.append_left (join (map f l)) (rw e at k)
   join_map_in (z ∷ l) (Memᴰ.tail m) k = Memᴰ.append_right (f z) (join_map_in l m k)
 

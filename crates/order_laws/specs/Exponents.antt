@@ -62,8 +62,9 @@ unfoldable pub tested : (ℕ → Bool) → ℕ → List ℕ → Bool
 tested test N l = test N && none_of test N l
 
 module _ (test : ℕ → Bool) (N : ℕ) where
-  none_out : {l : List ℕ} {r : ℕ} → none_of test N l ≡ true → Memᴰ r l → test (N / r) ≡ false
+  none_out : {r : ℕ} {l : List ℕ} → none_of test N l ≡ true → Memᴰ r l → test (N / r) ≡ false
   unfolding none_of
+  none_out {l = []} t m = elim m [ ]
   none_out {l = q ∷ l} t (Memᴰ.head e) = ap (λ r. test (N / r)) e ∙ not-true _ ((and-eq-true_iff (not (test (N / q))) (none_of test N l)).0 t).0
   none_out {l = q ∷ l} t (Memᴰ.tail m) = none_out ((and-eq-true_iff (not (test (N / q))) (none_of test N l)).0 t).1 m
 
