@@ -17,6 +17,7 @@ pub record PairedOff {X : Type 0} (f : X → X) (l : List X) : Type 0 where
 
 module _ {X : Type 0} where
   taken_out : {y : X} {l : List X} → Memᴰ y l → (rest : List X) × Put y rest l
+  taken_out {l = []} m = elim m [ ]
   taken_out {y} {l = z ∷ l} (Memᴰ.head e) = (l, subst (λ (z : X). Put y l (z ∷ l)) e here)
   taken_out {l = z ∷ l} (Memᴰ.tail m) = let t = taken_out m in (z ∷ t.0, later t.1)
 

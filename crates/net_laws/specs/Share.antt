@@ -100,8 +100,8 @@ module _ (p : ℕ) (pos : 0 < p) (q : ℕ) where
       → Cell p d (first_rows (digit_row p q j) n ++ rs) T
   unfolding first_rows
   digits_cell {d} {rs} {P} j zero r l c says = subst (Cell p d rs) (fun_ext (λ h. sym (says h ∙ ap (λ (b : Bool). b && P h) (begins_none j r h l)))) c
-  digits_cell {P = P} j (suc n) r l c says =
-      at_row_lem (digits_cell j n (r / 2) (omega (arith, pow-suc 2 n)) c (λ h. refl)) (record {
+  digits_cell {P = P} {T = T} j (suc n) r l c says =
+      at_row_lem (digits_cell {T = λ x. begins j n (r / 2) x && P x} j n (r / 2) (omega (arith, pow-suc 2 n)) c (λ h. refl)) (record {
         small = digit_row_lt p pos q j n;
         asked = r % 2;
         binary = omega arith;

@@ -160,6 +160,7 @@ module _ (G : ℕ → ℕ → ℕ) where
     bottom_lightest : (i l w : ℕ) (ls hs : List ℕ) → Known 0 i l ls hs w → Lightest 0 l ls hs w
     unfolding total share_rows first_rows
     bottom_lightest i l w ls hs known zero ds es v x le here rel = omega (arith, known 0 ds v x le (omega arith) rel)
+    bottom_lightest i l w ls hs known (suc e) ds es v x le there rel = elim there [ ]
 
     pub found_lightest : {c i l low w k : ℕ} {hs : List ℕ} → Found f c i l hs low w k → (ls : List ℕ) → total ls ≡ low → c + length hs ≡ J → w ≤ W
         → Known c i l ls hs w → Lightest c l ls hs k

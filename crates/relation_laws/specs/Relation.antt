@@ -97,6 +97,7 @@ reduced_adds (r ∷ rs) x = go (reduced_adds rs x) (reduced_adds rs r)
 -- a relation of free rows has more than c digits
 pub newest_heavy : (c : ℕ) (rs : List ℕ) (v : ℕ) → Newest rs v → Free c rs → 2 ^ c ≤ v
 unfolding Newest Free
+newest_heavy c [] v h free = elim h [ ]
 newest_heavy c (r ∷ rs) v (u, s, e) free =
     let same : reduced rs v ≡ reduced rs r = ap (reduced rs) e ∙ reduced_unchanged rs r s in
     omega (arith, reduce_le (basis rs) v, free.0)

@@ -67,6 +67,7 @@ pub record Indexed {X : Type 0} (d : X) (l : List X) (x : X) : Type 0 where
   pub is : get_or l index d ≡ x
 
 pub indexed : {X : Type 0} (d : X) (l : List X) {x : X} → Memᴰ x l → Indexed d l x
+indexed d [] i = elim i [ ]
 indexed d (y ∷ l) (Memᴰ.head e) = record { index = 0; below = omega arith; is = sym e }
 indexed d (y ∷ l) (Memᴰ.tail i) = let r = indexed d l i in record { index = suc r.index; below = omega (arith, r.below); is = r.is }
 
@@ -88,6 +89,7 @@ degree_member s (suc k) i zero h = Memᴰ.head refl
 degree_member s (suc k) i (suc j) h = Memᴰ.tail (degree_member s k (behind_entry s i) j (omega arith))
 
 pub lawful_member : {last : ℕ} {ls : List Listed} {l : Listed} → LawfulLists last ls → Memᴰ l ls → LawfulListed l
+lawful_member none i = elim i [ ]
 lawful_member (more a h f) (Memᴰ.head e) = subst LawfulListed (sym e) h
 lawful_member (more a h f) (Memᴰ.tail i) = lawful_member f i
 
