@@ -1,6 +1,7 @@
 -- Judging, the quotient test, a single t-value by either engine, the sum of resolution gaps, pages and points: what each call answers and what each
 -- lent slice holds afterwards, for every input. Assumes nothing.
-use Rattle.definitions.specs.Base.{Bool, not, ◌&&◌, List, [], ◌∷◌, ◌++◌, ℕ, ◌-◌, ◌/◌, min, leb, ltb, length, Refusal, WrongDegree, WrongDimension}
+use Rattle.std.specs.Prelude.{◌&&◌, ◌∷◌, ◌++◌, ◌-◌, ◌/◌}
+use Rattle.definitions.specs.Base.{Bool, not, List, [], ℕ, min, leb, ltb, length, Refusal, WrongDegree, WrongDimension}
 use Rattle.definitions.specs.Base.{IllFormedPair, NotPrimitive, QuotientNotLinear, StepNotCoprime, StepBelowFloor, WrongFloor, ShortSlice, BeyondPeriod}
 use Rattle.definitions.specs.Base.{Selection}
 use Rattle.definitions.specs.Base.{Position, Start, After, PageRequest, Judgement, Accepted, Rejected, Uniformity, Value, Undefined, PageAnswer}

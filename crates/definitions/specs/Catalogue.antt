@@ -1,5 +1,6 @@
 -- The catalogue: its form, opening it, looking a degree up, reading a body row by row. Assumes nothing.
-use Rattle.definitions.specs.Base.{Bool, true, false, cond, not, ◌&&◌, List, [], ◌∷◌, ℕ, zero, suc, ◌+◌, ◌-◌, ◌*◌, ◌%◌, ◌^◌, eqb, leb, ltb}
+use Rattle.std.specs.Prelude.{◌&&◌, ◌∷◌, ◌+◌, ◌-◌, ◌*◌, ◌%◌, ◌^◌}
+use Rattle.definitions.specs.Base.{Bool, true, false, cond, not, List, [], ℕ, zero, suc, eqb, leb, ltb}
 use Rattle.definitions.specs.Base.{length, take, drop, get_or, Refusal, WrongDegree, IllFormedCatalogue, DegreeMissing, Opening, Entries, Closed}
 use Rattle.definitions.specs.Base.{Lookup, Body, NoBody, Row, NextRow, Found, End}
 use Rattle.definitions.specs.Number.{bit, every}

@@ -1,6 +1,6 @@
 -- The starred examples of document 01, read with floor 0: one table and one theorem, computed. Assumes nothing.
-use Rattle.definitions.specs.Base.{Bool, true, false, ◌&&◌, eqb, List, [], ◌∷◌, ◌++◌, map, ℕ, replicate, Selection, PageRequest, Start}
-use Rattle.std.specs.Prelude.{◌≡◌, refl, T}
+use Rattle.definitions.specs.Base.{Bool, true, false, eqb, List, [], map, ℕ, replicate, Selection, PageRequest, Start}
+use Rattle.std.specs.Prelude.{◌≡◌, refl, T, ◌&&◌, ◌∷◌, ◌++◌}
 use Rattle.std.proofs.Common.{ap₂, eqb→eq}
 use Rattle.definitions.specs.Answers.{judgement_values, uniformity_values, page_values, unless}
 use Rattle.definitions.specs.Calls.{judgement, uniformity, page_request, page_answer, page_slice, points_slice, pair_situations, judging, measuring}

@@ -1,6 +1,7 @@
 -- Resolution: how many leading digits of each coordinate the points show equally often, and the sum of resolution gaps Δ. Document 001, Definition 5,
 -- over the points and the boxes of the t-value. Assumes nothing.
-use Rattle.definitions.specs.Base.{Bool, List, ℕ, ◌-◌, ◌/◌, ◌^◌, eqb, replicate}
+use Rattle.std.specs.Prelude.{◌-◌, ◌/◌, ◌^◌}
+use Rattle.definitions.specs.Base.{Bool, List, ℕ, eqb, replicate}
 use Rattle.definitions.specs.Number.{largest, count, sum}
 use Rattle.definitions.specs.Net.{every_box, in_box}
 

@@ -1,7 +1,8 @@
 -- Generators: what makes a pair (p, q) of degree m well-formed, primitive and accepted; partial quotients and their degrees, the tree of pairs, the
 -- step and its floor.
 -- Assumes nothing.
-use Rattle.definitions.specs.Base.{Bool, ◌&&◌, List, [], ◌∷◌, ◌++◌, ℕ, zero, suc, ◌-◌, ◌^◌, max, eqb, leb, ltb}
+use Rattle.std.specs.Prelude.{◌&&◌, ◌∷◌, ◌++◌, ◌-◌, ◌^◌}
+use Rattle.definitions.specs.Base.{Bool, List, [], ℕ, zero, suc, max, eqb, leb, ltb}
 use Rattle.definitions.specs.Number.{first, all, gcd}
 use Rattle.definitions.specs.Polynomial.{◌⊕◌, degree, prod, quot, rem}
 

@@ -1,7 +1,7 @@
 -- Laws that keep the definitions honest: what a reader would check first. By the definitions' own cases. Assumes nothing.
-use Rattle.definitions.specs.Base.{Bool, true, false, List, [], ◌∷◌, ◌++◌, map, ℕ, zero, suc, ◌+◌, ◌/◌, eqb, length, drop, Refusal, Position, Start}
+use Rattle.definitions.specs.Base.{Bool, true, false, List, [], map, ℕ, zero, suc, eqb, length, drop, Refusal, Position, Start}
 use Rattle.definitions.specs.Base.{After, PageRequest}
-use Rattle.std.specs.Prelude.{◌≡◌, refl, ◌≤◌, ◌<◌}
+use Rattle.std.specs.Prelude.{◌≡◌, refl, ◌≤◌, ◌<◌, ◌∷◌, ◌++◌, ◌+◌, ◌/◌}
 use Rattle.std.proofs.Common.{◌∙◌, zero-add, arith, take_all, drop_at, length-take-le, ltb-true, ltb-false, eqb-true, le-leb}
 use Rattle.std.proofs.Math.Bool.{and-eq-true_iff}
 use Rattle.definitions.specs.Number.{first, sum, numbers, all, over}

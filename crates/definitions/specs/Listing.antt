@@ -1,6 +1,7 @@
 -- The listing program: the line that it reads and the text that it prints, as bytes. Assumes nothing.
-use Rattle.definitions.specs.Base.{String, len, char_at, code, Bool, true, false, cond, ◌&&◌, List, [], ◌∷◌, ◌++◌, map, ℕ, zero, suc, ◌+◌, ◌-◌}
-use Rattle.definitions.specs.Base.{◌*◌, ◌/◌, ◌%◌, eqb, leb, ltb, length, take, drop, replicate, Refusal, Selection, Start, Line, Asked}
+use Rattle.std.specs.Prelude.{◌&&◌, ◌∷◌, ◌++◌, ◌+◌, ◌-◌, ◌*◌, ◌/◌, ◌%◌}
+use Rattle.definitions.specs.Base.{String, len, char_at, code, Bool, true, false, cond, List, [], map, ℕ, zero, suc}
+use Rattle.definitions.specs.Base.{eqb, leb, ltb, length, take, drop, replicate, Refusal, Selection, Start, Line, Asked}
 use Rattle.definitions.specs.Base.{Unreadable}
 use Rattle.definitions.specs.Number.{numbers, all, join}
 use Rattle.definitions.specs.Answers.{refusal_number, unless}

@@ -1,5 +1,6 @@
 -- Nets: every way to share digits among coordinates, every box, the count of points in it, and the t-value. Assumes nothing.
-use Rattle.definitions.specs.Base.{Bool, true, false, ◌&&◌, List, [], ◌∷◌, ℕ, zero, suc, ◌-◌, ◌^◌, eqb}
+use Rattle.std.specs.Prelude.{◌&&◌, ◌∷◌, ◌-◌, ◌^◌}
+use Rattle.definitions.specs.Base.{Bool, true, false, List, [], ℕ, zero, suc, eqb}
 use Rattle.definitions.specs.Number.{first, every, count}
 use Rattle.definitions.specs.Points.{leading, coordinate}
 

@@ -1,6 +1,7 @@
 -- Numbers and lists, as far as the definitions need them: the first and the largest number that pass a test, counting, sums, greatest common divisors.
 -- Assumes nothing.
-use Rattle.definitions.specs.Base.{Bool, true, false, ◌&&◌, List, [], ◌∷◌, ◌++◌, ℕ, zero, suc, ◌+◌, ◌%◌, length, take, drop}
+use Rattle.std.specs.Prelude.{◌&&◌, ◌∷◌, ◌++◌, ◌+◌, ◌%◌}
+use Rattle.definitions.specs.Base.{Bool, true, false, List, [], ℕ, zero, suc, length, take, drop}
 
 -- The first number from a on that passes the test, of n tried; the number behind these where none does.
 unfoldable pub first : ℕ → ℕ → (ℕ → Bool) → ℕ

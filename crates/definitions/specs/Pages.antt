@@ -1,5 +1,6 @@
 -- Lists ranked by a key, and their pages; nothing here speaks of generators. Assumes nothing.
-use Rattle.definitions.specs.Base.{Bool, true, false, cond, ◌&&◌, ◌||◌, List, [], ◌∷◌, ℕ, eqb, ltb, length, take}
+use Rattle.std.specs.Prelude.{◌&&◌, ◌||◌, ◌∷◌}
+use Rattle.definitions.specs.Base.{Bool, true, false, cond, List, [], ℕ, eqb, ltb, length, take}
 use Rattle.definitions.specs.Number.{keep}
 
 -- Key a stands before key b: at the first place where they differ a has the smaller number, or a ends there.

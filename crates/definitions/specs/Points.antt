@@ -1,5 +1,6 @@
 -- Points: the recurrence, its words, and the point set in dimension s. Assumes nothing.
-use Rattle.definitions.specs.Base.{List, [], ◌∷◌, ℕ, zero, suc, ◌*◌, ◌^◌}
+use Rattle.std.specs.Prelude.{◌∷◌, ◌*◌, ◌^◌}
+use Rattle.definitions.specs.Base.{List, [], ℕ, zero, suc}
 use Rattle.definitions.specs.Polynomial.{prod, power, quot, rem}
 
 -- The first d digits of y/p in powers of x^(-1), as a number with the first digit highest.

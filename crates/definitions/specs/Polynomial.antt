@@ -1,6 +1,7 @@
 -- Binary polynomials, written as numbers: bit i is the coefficient of x^i. Sum, degree, product and long division; all else is said in these.
 -- Assumes nothing.
-use Rattle.definitions.specs.Base.{ℕ, zero, suc, ◌+◌, ◌*◌, ◌/◌, ◌%◌, ◌^◌, bit_xor}
+use Rattle.std.specs.Prelude.{◌+◌, ◌*◌, ◌/◌, ◌%◌, ◌^◌}
+use Rattle.definitions.specs.Base.{ℕ, zero, suc, bit_xor}
 
 infixl 62 ◌⊕◌
 -- The sum, without carries.

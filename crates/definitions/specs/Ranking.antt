@@ -1,5 +1,6 @@
 -- The ranked list: each pair accepted at its floor, among all pairs there are, in the one order. Assumes nothing.
-use Rattle.definitions.specs.Base.{Bool, ◌&&◌, List, [], ◌∷◌, ◌++◌, map, ℕ, suc, ◌+◌, ◌-◌, ◌^◌, leb, take, drop, Selection, Position, Start, After}
+use Rattle.std.specs.Prelude.{◌&&◌, ◌∷◌, ◌++◌, ◌+◌, ◌-◌, ◌^◌}
+use Rattle.definitions.specs.Base.{Bool, List, [], map, ℕ, suc, leb, take, drop, Selection, Position, Start, After}
 use Rattle.definitions.specs.Number.{bit, numbers, put_if, keep, join}
 use Rattle.definitions.specs.Generator.{Pair, period, step, accepted_at}
 use Rattle.definitions.specs.Net.{t_value}

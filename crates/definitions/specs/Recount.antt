@@ -1,5 +1,6 @@
 -- The program that counts a t-value again: the line that it reads and the text that it prints, as bytes. Assumes nothing.
-use Rattle.definitions.specs.Base.{List, [], ◌∷◌, ◌++◌, ℕ, Refusal}
+use Rattle.std.specs.Prelude.{◌∷◌, ◌++◌}
+use Rattle.definitions.specs.Base.{List, [], ℕ, Refusal}
 use Rattle.definitions.specs.Answers.{refusal_number, unless}
 use Rattle.definitions.specs.Net.{t_value}
 use Rattle.definitions.specs.Calls.{counting}

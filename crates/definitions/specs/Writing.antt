@@ -1,6 +1,7 @@
 -- Writing a catalogue: the bytes of a file that holds given lists, which `Catalogue.antt` reads; the file that entries ask for; what the call answers
 -- and leaves in the lent buffer; and the program that writes a file. Assumes nothing.
-use Rattle.definitions.specs.Base.{Bool, true, false, not, ◌&&◌, List, [], ◌∷◌, ◌++◌, map, ℕ, zero, suc, ◌+◌, ◌-◌, ◌*◌, ◌/◌, ◌%◌, ◌^◌, ltb, length, drop}
+use Rattle.std.specs.Prelude.{◌&&◌, ◌∷◌, ◌++◌, ◌+◌, ◌-◌, ◌*◌, ◌/◌, ◌%◌, ◌^◌}
+use Rattle.definitions.specs.Base.{Bool, true, false, not, List, [], map, ℕ, zero, suc, ltb, length, drop}
 use Rattle.definitions.specs.Base.{get_or, Selection, Refusal, WrongDegree, WrongDimension, WrongFloor, NotAscending, FileTooLong, FileAnswer, File}
 use Rattle.definitions.specs.Base.{NoFile}
 use Rattle.definitions.specs.Number.{all, join, over}
