@@ -47,7 +47,7 @@ module _ (m top : ℕ) (gaps : Bool) (from : ℕ) (slice : List ℕ) (tall : Law
 
     pub ranks_small : LawfulDegree m → (k : ℕ) → k < suc top - least_top + bit gaps → get_or slice (from + ranks_from + k) 0 < 256
     ranks_small degree k l =
-        let small = written.ranks-small m top gaps row degree lawful (ranks_from + k) (omega arith) (omega (arith, lawful.width, tall.low)) in
+        let small = written.ranks_small m top gaps row degree lawful (ranks_from + k) (omega arith) (omega (arith, lawful.width, tall.low)) in
         let e : get_or row (ranks_from + k) 0 ≡ get_or slice (from + ranks_from + k) 0 =
         number_is (ranks_from + k) (omega (arith, tall.low)) ∙ ap (λ (n : ℕ). get_or slice n 0) (sym (add_assoc from ranks_from k)) in
         omega arith

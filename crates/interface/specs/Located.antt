@@ -30,17 +30,17 @@ pub record BodyPart (s part : List ℕ) (b : FenyurkaBody) : Type 0 where
 
 module _ (s : List ℕ) (m : ℕ) where
   pub located_values : SameLookup (lookup_values (lookup_numbers s m)) (located s m)
-  located_values = rw (← seek.located-numbers s m) (go (seek.locating s m))
+  located_values = rw (← seek.located_numbers s m) (go (seek.locating s m))
     where
-      go : (k : Located) → SameLookup (lookup_values (seek.numbersOf k)) (body_result k)
+      go : (k : Located) → SameLookup (lookup_values (seek.numbers_of k)) (body_result k)
       go (At b) = record { refusal = refl; top = refl; gaps = refl; rows = refl }
       go (Missing r) = record { refusal = refl; top = refl; gaps = refl; rows = refl }
 
   pub located_part : BodyPart s (lookup_part s m) (located s m)
-  located_part = rw (← seek.located-part s m) (go (seek.locating s m) refl)
+  located_part = rw (← seek.located_part s m) (go (seek.locating s m) refl)
     where
       go : (k : Located) → seek.locating s m ≡ k → BodyPart s (seek.part_of s k) (body_result k)
       go (At b) at =
-          let lawful = seek.located-lawful s m b at in
+          let lawful = seek.located_lawful s m b at in
           record { within = lawful.within; same = refl; whole = lawful.size_is }
       go (Missing r) at = record { within = omega arith; same = refl; whole = refl }

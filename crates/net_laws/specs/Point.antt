@@ -23,7 +23,7 @@ digit_row_first p q j = ap (λ (z : ℕ). rem z p) (one_prod (power q j))
 
 pub leading_origin : (p q j d : ℕ) → leading p d (coordinate p q j 0) ≡ 0
 unfolding coordinate
-leading_origin p q j d = rw (zero_prod (power q j), rem_zero p) (Leading.leading-zero p d)
+leading_origin p q j d = rw (zero_prod (power q j), rem_zero p) (Leading.leading_zero p d)
 
 module _ (p : ℕ) (pos : 0 < p) where
   -- ---- the rows
@@ -51,7 +51,7 @@ module _ (p : ℕ) (pos : 0 < p) where
   leading_lt q j d h = Leading.leading_lt p pos (coordinate p q j h) (coordinate_lt q j h) d
 
   pub leading_none : (q j h : ℕ) → leading p 0 (coordinate p q j h) ≡ 0
-  leading_none q j h = Leading.leading-none p pos (coordinate p q j h) (coordinate_lt q j h)
+  leading_none q j h = Leading.leading_none p pos (coordinate p q j h) (coordinate_lt q j h)
 
   digit_row_prod : (q j i h : ℕ) → rem (prod (digit_row p q j i) h) p ≡ rem (coordinate p q j h * 2 ^ i) p
   unfolding digit_row coordinate
@@ -62,4 +62,4 @@ module _ (p : ℕ) (pos : 0 < p) where
 
   pub leading_more : (q j d h : ℕ) → leading p (suc d) (coordinate p q j h) ≡ 2 * leading p d (coordinate p q j h) + pairing p (digit_row p q j d) h
   unfolding pairing
-  leading_more q j d h = rw (Leading.leading-more p d (coordinate p q j h), digit_row_prod q j d h)
+  leading_more q j d h = rw (Leading.leading_more p d (coordinate p q j h), digit_row_prod q j d h)

@@ -37,7 +37,7 @@ behind_fits : (c : tie.After-next Underway left) → let t = turn c in let size 
 behind_fits c =
     let t = turn c in
     let s = start t in
-    laws.both-fit s.args.list s.pre.0 s.args.file.now s.args.at s.pre.1.1 t.loop.inv.0 c.next.ensures
+    laws.both_fit s.args.list s.pre.0 s.args.file.now s.args.at s.pre.1.1 t.loop.inv.0 c.next.ensures
 
 room : (c : tie.At-loop Underway left) → row_width c.loop.here.list ≤ length c.loop.rows
 room c = rw c.loop.invariant.0.reads.list (omega (arith, c.loop.invariant.1, (start c).requires.1.0))
@@ -52,7 +52,7 @@ fits c =
 loop-holds : tie.Need-loop-init Underway left
 loop-holds c =
     let s = c.before.before.before.before in
-    (rw c.start.ensures (laws.underway-start s.args.list s.args.file.now s.args.at s.requires.0), refl)
+    (rw c.start.ensures (laws.underway_start s.args.list s.args.file.now s.args.at s.requires.0), refl)
 
 next-requires : tie.Need-next-requires Underway left
 next-requires c κs =
@@ -83,8 +83,8 @@ write-rows-requires c κs =
       (
         fits n,
         (
-          laws.handed-lawful s.args.list lawful s.args.file.now s.args.at s.pre.1.1 u n.next.ensures,
-          rw (size_is t) (laws.portion-fits s.args.list lawful s.args.file.now s.args.at s.pre.1.1 u n.next.ensures),
+          laws.handed_lawful s.args.list lawful s.args.file.now s.args.at s.pre.1.1 u n.next.ensures,
+          rw (size_is t) (laws.portion_fits s.args.list lawful s.args.file.now s.args.at s.pre.1.1 u n.next.ensures),
         ),
       ),
     )
@@ -109,7 +109,7 @@ loop-again c =
     let s = start t in
     let u = t.loop.inv.0 in
     let wrote = rw (size_is t) at w.write-rows.ensures in (
-      laws.underway-next s.args.list s.pre.0 s.args.file.now s.args.at s.pre.1.1 u n.next.ensures wrote,
+      laws.underway_next s.args.list s.pre.0 s.args.file.now s.args.at s.pre.1.1 u n.next.ensures wrote,
       slice_kept n.next.ensures u.reads.on_list ∙ t.loop.inv.1,
     )
 
@@ -120,15 +120,15 @@ file-kept : tie.Need-same-length-2 Underway left
 file-kept c =
     let t = c.before in
     let s = start t in
-    laws.length-kept s.args.list s.pre.0 s.args.file.now s.args.at s.pre.1.1 t.loop.invariant.0
+    laws.length_kept s.args.list s.pre.0 s.args.file.now s.args.at s.pre.1.1 t.loop.invariant.0
 
 returns : tie.Need-returns Underway left
 returns c =
     let t = c.before in
     let s = start t in
     let u = t.loop.invariant.0 in (
-      laws.all-counted s.args.list s.pre.0 s.args.file.now s.args.at s.pre.1.1 u c.loop-test.false,
-      laws.all-written s.args.list s.pre.0 s.args.file.now s.args.at s.pre.1.1 u c.loop-test.false,
+      laws.all_counted s.args.list s.pre.0 s.args.file.now s.args.at s.pre.1.1 u c.loop-test.false,
+      laws.all_written s.args.list s.pre.0 s.args.file.now s.args.at s.pre.1.1 u c.loop-test.false,
     )
 
 pub write_body_spec : {M : Type 1} → statement M

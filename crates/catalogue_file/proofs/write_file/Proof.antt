@@ -52,25 +52,25 @@ abbrev counted : tie.At-loop Underway remaining → List ℕ
 counted c = set (start c).args.file.now 0 c.before.count.result
 
 room : (c : tie.At-loop Underway remaining) → length (ranked_file (listed c)) ≤ length (counted c)
-room c = laws.room-kept (listed c) (start c).requires.0 (start c).args.file.now c.before.count.result (start c).requires.1.1
+room c = laws.room_kept (listed c) (start c).requires.0 (start c).args.file.now c.before.count.result (start c).requires.1.1
 
 count-cast : tie.Need-overflow-cast-file Underway remaining
-count-cast c = omega (arith, count_is c, laws.entries-few (asked c) (begun c).requires.0)
+count-cast c = omega (arith, count_is c, laws.entries_few (asked c) (begun c).requires.0)
 
 first_byte : tie.Need-slice-write-file Underway remaining
-first_byte c = let s = begun c in omega (arith, laws.file-some (asked c) s.pre.0, s.pre.1.1)
+first_byte c = let s = begun c in omega (arith, laws.file_some (asked c) s.pre.0, s.pre.1.1)
 
 loop-holds : tie.Need-loop-init Underway remaining
 loop-holds c =
     let s = begun c in
-    (laws.filing-begun (asked c) s.pre.0 s.args.file.now c.count.result s.pre.1.1 (count_is c) s.pre.1.0, refl)
+    (laws.filing_begun (asked c) s.pre.0 s.args.file.now c.count.result s.pre.1.1 (count_is c) s.pre.1.0, refl)
 
 -- What the list's writer asks of the entry that is read.
 asks : (c : tie.After-entry Underway remaining) → let l = (turn c).loop in laws.ListAsks c.entry.result l.place l.at l.file
 asks c =
     let t = turn c in
     let l = t.loop in
-    laws.list-asks (listed t) (start t).pre.0 (counted t) (room t) l.k l.place l.at l.file l.inv.0 (inside c.before)
+    laws.list_asks (listed t) (start t).pre.0 (counted t) (room t) l.k l.place l.at l.file l.inv.0 (inside c.before)
     c.entry.result c.entry.ensures
 
 write-list-requires : tie.Need-write-list-requires Underway remaining
@@ -93,7 +93,7 @@ loop-again c =
     let t = turn r in
     let l = t.loop in
     let kept = c.before.before.before.before.rows2.given in (
-      laws.filing-next (listed t) (start t).pre.0 (counted t) (room t) l.k l.place l.at l.file l.inv.0 (inside r.before)
+      laws.filing_next (listed t) (start t).pre.0 (counted t) (room t) l.k l.place l.at l.file l.inv.0 (inside r.before)
           r.entry.result r.entry.ensures c.entry-size.ensures w.write-list.ensures.0 w.write-list.ensures.1,
       kept ∙ l.inv.1,
     )
@@ -108,7 +108,7 @@ returns c =
     let t = c.before.before in
     let l = t.loop in
     let s = start t in
-    laws.filing-ended (listed t) s.pre.0 s.args.file.now t.before.count.result s.pre.1.1
+    laws.filing_ended (listed t) s.pre.0 s.args.file.now t.before.count.result s.pre.1.1
     (filing_end (listed t) s.pre.0 (counted t) (room t) l.k l.place l.at l.file l.invariant.0
     (omega (arith, c.before.loop-test.false, count_is t.before)))
 

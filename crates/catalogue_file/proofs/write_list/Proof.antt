@@ -25,7 +25,7 @@ entered c = c.before.before.before
 rows-cast : tie.Need-overflow-cast-write-entry
 rows-cast c =
     let b = c.before.before.before.before.before in
-    omega (arith, b.write-body.ensures.0, laws.rows-small (start b).args.list (start b).requires.0)
+    omega (arith, b.write-body.ensures.0, laws.rows_small (start b).args.list (start b).requires.0)
 
 -- How many bytes the body has.
 size_is : (c : tie.After-row-size) → let b = written (entered c) in let l = (start b).args.list in

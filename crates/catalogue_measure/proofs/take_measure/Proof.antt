@@ -44,7 +44,7 @@ more : (c : tie.After-entry-size Measured remaining) (b : ℕ) → let l = (turn
 more c b e =
     let t = turn c in
     let l = t.loop in
-    laws.measured-more (listed t) (start t).pre l.k l.contents l.bodies l.inv (inside c.before.before) c.before.entry.ensures
+    laws.measured_more (listed t) (start t).pre l.k l.contents l.bodies l.inv (inside c.before.before) c.before.entry.ensures
     c.entry-size.ensures e
 
 sums_fit : (c : tie.After-entry-size Measured remaining) (b : ℕ) → let l = (turn c).loop in let x = c.before.entry.result in
@@ -82,7 +82,7 @@ returns : tie.Need-returns Measured remaining
 returns c =
     let t = c.before in
     let l = t.loop in
-    laws.measured-end (listed t) (start t).requires l.k l.contents l.bodies l.invariant (omega (arith, c.loop-test.false, count_is t))
+    laws.measured_end (listed t) (start t).requires l.k l.contents l.bodies l.invariant (omega (arith, c.loop-test.false, count_is t))
 
 pub take_measure_spec : {M : Type 1} → statement M
 take_measure_spec =

@@ -21,7 +21,7 @@ remaining file₀ at numbers from n k₀ file k = n - k
 loop-holds : tie.Need-loop-init Left remaining
 loop-holds c =
     let a = c.args in
-    (omega arith, refl, laws.bytes-start a.at a.from a.n a.numbers.now c.requires.1.0 a.file.now)
+    (omega arith, refl, laws.bytes_start a.at a.from a.n a.numbers.now c.requires.1.0 a.file.now)
 
 cast-file : tie.Need-overflow-cast-file Left remaining
 cast-file c =
@@ -34,14 +34,14 @@ loop-again c =
     let turn = c.before.before in
     let a = turn.before.args in
     let here = turn.loop in
-    let stored = laws.bytes-turn a.at a.from a.n a.numbers.now turn.before.requires.1.0 here.k here.file (omega arith) (omega arith) in
+    let stored = laws.bytes_turn a.at a.from a.n a.numbers.now turn.before.requires.1.0 here.k here.file (omega arith) (omega arith) in
     (omega arith, simp length-set here.invariant.1, stored ∙ here.invariant.2)
 
 returns : tie.Need-returns Left remaining
 returns c =
     let a = c.before.before.args in
     let here = c.before.loop in
-    laws.bytes-end a.at a.from a.n a.numbers.now c.before.before.requires.1.0 here.k here.file (omega arith) ∙ here.invariant.2
+    laws.bytes_end a.at a.from a.n a.numbers.now c.before.before.requires.1.0 here.k here.file (omega arith) ∙ here.invariant.2
 
 pub write_bytes_spec : {M : Type 1} → statement M
 write_bytes_spec =

@@ -23,13 +23,13 @@ loop-holds c = (omega arith, refl, refl)
 loop-again : tie.Need-loop-preserved Left remaining
 loop-again c =
     let here = c.before.loop in
-    let turn = laws.number-turn c.before.before.args.at here.rest here.file here.left (omega arith) (omega arith) in
+    let turn = laws.number_turn c.before.before.args.at here.rest here.file here.left (omega arith) (omega arith) in
     (omega arith, simp length-set here.invariant.1, turn ∙ here.invariant.2)
 
 returns : tie.Need-returns Left remaining
 returns c =
     let here = c.before.loop in
-    sym (laws.number-end c.before.before.args.at here.rest here.file here.left (omega arith)) ∙ here.invariant.2
+    sym (laws.number_end c.before.before.args.at here.rest here.file here.left (omega arith)) ∙ here.invariant.2
 
 pub write_number_spec : {M : Type 1} → statement M
 write_number_spec =

@@ -56,9 +56,9 @@ loop-again c =
     let l = t.loop in
     let there = inside r.before in
     let degrees = c.before.before in (
-      laws.all-on degree_test (listed t) l.k l.degrees l.inv.0 there r.entry.ensures degrees.before.is-lawful-degree.ensures
+      laws.all_on degree_test (listed t) l.k l.degrees l.inv.0 there r.entry.ensures degrees.before.is-lawful-degree.ensures
           degrees.both.ensures,
-      laws.all-on top_test (listed t) l.k l.tops l.inv.1 there r.entry.ensures c.before.is-lawful-top.ensures c.both2.ensures,
+      laws.all_on top_test (listed t) l.k l.tops l.inv.1 there r.entry.ensures c.before.is-lawful-top.ensures c.both2.ensures,
     )
 
 returns : tie.Need-returns Decide remaining

@@ -47,7 +47,7 @@ fails c =
     let t = turn r in
     let k = t.loop.k in
     sym
-    (laws.ascending-stop (listed t) (k - 1) k (just_before t) t.loop.inv.1 (inside r.before.before) r.entry2.ensures r.before.entry.ensures
+    (laws.ascending_stop (listed t) (k - 1) k (just_before t) t.loop.inv.1 (inside r.before.before) r.entry2.ensures r.before.entry.ensures
     (search rules))
 
 passes : tie.Need-loop-preserved RestDecides remaining
@@ -57,14 +57,14 @@ passes c =
     let k = t.loop.k in
     let back : k + 1 - 1 ≡ k = omega arith in
     let on =
-    laws.ascending-on (listed t) (k - 1) k (just_before t) t.loop.inv.1 (inside r.before.before) r.entry2.ensures r.before.entry.ensures
+    laws.ascending_on (listed t) (k - 1) k (just_before t) t.loop.inv.1 (inside r.before.before) r.entry2.ensures r.before.entry.ensures
     (search rules) in
     (search rules, rw back on)
 
 ends : tie.Need-returns-2 RestDecides remaining
 ends c =
     let t = c.before in
-    sym (laws.ascending-end (listed t) (t.loop.k - 1) t.loop.k (just_before t) t.loop.invariant.1 (omega (arith, c.loop-test.false, count_is t)))
+    sym (laws.ascending_end (listed t) (t.loop.k - 1) t.loop.k (just_before t) t.loop.invariant.1 (omega (arith, c.loop-test.false, count_is t)))
 
 pub do_ascend_spec : {M : Type 1} → statement M
 do_ascend_spec =

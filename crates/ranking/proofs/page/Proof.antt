@@ -106,7 +106,7 @@ filled c =
     let g = (entry list).args in
     let none = position_passes g.request.degree g.request.floor g.request.position (passed at) in
     let two = two-lawful list in
-    laws.page-filled g.request g.out.now (degree_lawful two) (top_lawful two) (floor_lawful list) none
+    laws.page_filled g.request g.out.now (degree_lawful two) (top_lawful two) (floor_lawful list) none
     (omega (arith, asked.before.before.width_of_lem.ensures)) c.before.before.fill.ensures
 
 pub page_spec : {M : Type 1} → statement M

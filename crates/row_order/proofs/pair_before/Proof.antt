@@ -12,7 +12,7 @@ abbrev entry-same : tie.Else1 → tie.Start
 entry-same c = c.before.before.before.before.before
 
 p-decides : tie.Need-returns
-p-decides c = laws.pair-differ _ _ _ _ (entry-apart c).requires c.if1.true
+p-decides c = laws.pair_differ _ _ _ _ (entry-apart c).requires c.if1.true
 
 q-decides : tie.Need-returns-2
 q-decides c = laws.pair_same _ _ _ _ (entry-same c).requires c.if1.false

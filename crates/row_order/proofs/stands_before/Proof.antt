@@ -16,7 +16,7 @@ abbrev entry-pairs : tie.After-pair-before → tie.Start
 entry-pairs c = c.before.before.before.before.before.before.before
 
 rows_compare : (e : tie.Start) → let g = e.args in laws.Compares g.width g.i g.a.now g.j g.b.now
-rows_compare e = let g = e.args in laws.rows-compare g.width e.requires.0 g.i g.j g.a.now g.b.now e.requires.1 e.requires.2
+rows_compare e = let g = e.args in laws.rows_compare g.width e.requires.0 g.i g.j g.a.now g.b.now e.requires.1 e.requires.2
 
 first-before : tie.Need-returns
 first-before c = rw (rows_compare (entry c), rw c.before.ranks-before.ensures at c.if1.true)

@@ -41,7 +41,7 @@ step-of-requires : tie.Need-step-of-requires Invariant measure
 step-of-requires c κs =
     let t = tested c in
     let l = loop t in
-    ((at l).pre.0.0, laws.pair-has-step (wide l) (room l) l.loop.inv t.loop-test.taken (at l).pre.1)
+    ((at l).pre.0.0, laws.pair_has_step (wide l) (room l) l.loop.inv t.loop-test.taken (at l).pre.1)
 
 -- ---- it is written
 loop-again : tie.Need-loop-preserved Invariant measure
@@ -54,7 +54,7 @@ same_length : tie.Need-same-length Invariant measure
 same_length c = let l = c.before in laws.same_length (wide l) (room l) l.loop.invariant
 
 returns : tie.Need-returns Invariant measure
-returns c = let l = c.before in laws.all-stepped (wide l) (room l) l.loop.invariant c.loop-test.false
+returns c = let l = c.before in laws.all_stepped (wide l) (room l) l.loop.invariant c.loop-test.false
 
 pub write_steps_spec : {M : Type 1} → statement M
 write_steps_spec =
@@ -62,7 +62,7 @@ write_steps_spec =
     (tie.spec
     Invariant
     measure
-    (λ c. laws.none-stepped _ _ _ _)
+    (λ c. laws.none_stepped _ _ _ _)
     (λ c. omega (arith, fits c))
     (λ c. omega (arith, fits c))
     (λ c. omega (arith, fits c.before))

@@ -27,7 +27,7 @@ sized c = (marked c).before.before
 room : (c : tie.After-count-size) → let a = (start c).args in a.at + 2 + c.count-size.result + offset_size ≤ length a.file.now
 room c =
     let a = (start c).args in
-    laws.entry-room a.list a.rows a.offset a.at a.file.now (start c).requires.1 c.count-size.ensures.0
+    laws.entry_room a.list a.rows a.offset a.at a.file.now (start c).requires.1 c.count-size.ensures.0
 
 mark-small : tie.Need-overflow-cast-file-2
 mark-small c =
@@ -56,7 +56,7 @@ returns c =
     let here = counted c.before.before in
     let known = sized here in
     let a = (start known).args in
-    laws.entry-written a.list a.rows a.offset a.at a.file.now (start known).pre.1 known.count-size.ensures.0
+    laws.entry_written a.list a.rows a.offset a.at a.file.now (start known).pre.1 known.count-size.ensures.0
     (marked here).marked-top.ensures here.before.write-number.ensures c.before.before.write-number2.ensures
 
 pub write_entry_spec : {M : Type 1} → statement M

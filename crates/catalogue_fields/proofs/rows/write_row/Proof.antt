@@ -71,13 +71,13 @@ ranks_small : (c : tie.After-number-size) (k : ℕ) → k < rank_count (start c)
 ranks_small c k l =
     let s = start c in
     let a = s.args in
-    laws.ranks-small a.list.degree a.list.top a.list.gaps a.from a.rows.now (top_lawful s) (row_lawful s) (degree_lawful s) k l
+    laws.ranks_small a.list.degree a.list.top a.list.gaps a.from a.rows.now (top_lawful s) (row_lawful s) (degree_lawful s) k l
 
 sub-write-number : tie.Need-overflow-sub-write-number
 sub-write-number c =
     let s = start c.before.before in
     let a = s.args in
-    let lead = laws.lead-within a.list.degree a.list.top a.list.gaps a.from a.rows.now (top_lawful s) (row_lawful s) in
+    let lead = laws.lead_within a.list.degree a.list.top a.list.gaps a.from a.rows.now (top_lawful s) (row_lawful s) in
     omega (arith, lead_is (degree_lawful s))
 
 write-number-requires : tie.Need-write-number-requires

@@ -29,7 +29,7 @@ turn : (c : tie.In-loop Left remaining) → let a = (start c).args in
 turn c =
     let a = (start c).args in
     let pre = (start c).requires in
-    laws.rows-turn a.list.degree a.list.top a.list.gaps a.at a.count a.rows.now a.file.now
+    laws.rows_turn a.list.degree a.list.top a.list.gaps a.at a.count a.rows.now a.file.now
     pre.0.1.low pre.1.1.0 pre.1.1.1 c.before.loop.k c.loop-test.true c.before.loop.invariant (entered c).row-size.ensures
     (wide c).width_of_lem.ensures pre.1.0
 

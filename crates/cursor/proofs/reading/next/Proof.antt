@@ -31,26 +31,26 @@ none_left : tie.Need-returns
 none_left c =
     let f = c.before.before.before in
     let e = entry f in
-    laws.handed-none e.args.at e.pre.0 e.pre.1 f.fill.ensures c.if1.true
+    laws.handed_none e.args.at e.pre.0 e.pre.1 f.fill.ensures c.if1.true
 
 place-fits : tie.Need-overflow-mul-after-row
 place-fits c =
     let f = filled c in
     let e = entry f in
-    omega (arith, laws.last-inside e.args.at e.pre.0 e.pre.1 f.fill.ensures (some_row c) (place c) (place_is c))
+    omega (arith, laws.last_inside e.args.at e.pre.0 e.pre.1 f.fill.ensures (some_row c) (place c) (place_is c))
 
 row_inside : tie.Need-after-row-requires
 row_inside c κs =
     let f = filled c in
     let e = entry f in
-    laws.last-inside e.args.at e.pre.0 e.pre.1 f.fill.ensures (some_row c) (place c) (place_is c)
+    laws.last_inside e.args.at e.pre.0 e.pre.1 f.fill.ensures (some_row c) (place c) (place_is c)
 
 rows-handed : tie.Need-returns-2
 rows-handed c =
     let at = c.before in
     let f = filled at in
     let e = entry f in
-    laws.handed-some e.args.at e.pre.0 e.pre.1 f.fill.ensures (some_row at) (place_is at) c.after-row.ensures
+    laws.handed_some e.args.at e.pre.0 e.pre.1 f.fill.ensures (some_row at) (place_is at) c.after-row.ensures
 
 pub next_spec : {M : Type 1} → statement M
 next_spec =

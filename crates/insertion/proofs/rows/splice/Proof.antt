@@ -15,7 +15,7 @@ put_in : tie.Need-returns
 put_in c =
     let g = (entry (shifted c)).args in
     rw (c.before.before.write-row.ensures, (shifted c).shift.ensures)
-    (laws.shifted-written g.from g.to g.width g.row.now g.out.now (omega arith) (omega arith))
+    (laws.shifted_written g.from g.to g.width g.row.now g.out.now (omega arith) (omega arith))
 
 pub splice_spec : {M : Type 1} → statement M
 splice_spec = tie.close (tie.spec (λ c κs. search rules) (λ c κs. search rules) (λ c. search rules) put_in)

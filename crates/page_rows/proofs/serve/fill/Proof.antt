@@ -25,20 +25,20 @@ key-room c κs = let short = width_most (at_key (key-written c)).requires.0 in s
 pair-accepted : tie.Need-write-key-requires
 pair-accepted c κs =
     let e = at_key c in
-    let accepted = laws.listed-pair e.args.list e.pre.1 c.before.before.position.given.1 in
+    let accepted = laws.listed_pair e.args.list e.pre.1 c.before.before.position.given.1 in
     search rules
 
 from_start : tie.Need-returns
 from_start c =
     let asked = c.before.before.before in
-    laws.filled-start (at-start asked).args.list asked.before.before.enum_told.given.1 c.before.before.search-all.ensures
+    laws.filled_start (at-start asked).args.list asked.before.before.enum_told.given.1 c.before.before.search-all.ensures
 
 from-pair : tie.Need-returns-2
 from-pair c =
     let asked = c.before.before.before in
     let key = key-written asked in
     let written = asked.before.before.before.write-key.ensures in
-    laws.filled-after (at_key key).args.list _ _ key.before.before.position.given.1 written c.before.before.search-all2.ensures
+    laws.filled_after (at_key key).args.list _ _ key.before.before.position.given.1 written c.before.before.search-all2.ensures
 
 pub fill_spec : {M : Type 1} → statement M
 fill_spec =

@@ -29,7 +29,7 @@ nothing-found c κs =
     let g = e.args in
     let out = g.out.now in
     laws.ready g.list g.after g.last.now out (capacity c) e.pre.0 e.pre.1
-    (laws.fitting-some g.list out (capacity_is c) e.pre.2) (laws.fitting-room g.list out (capacity_is c))
+    (laws.fitting_some g.list out (capacity_is c) e.pre.2) (laws.fitting_room g.list out (capacity_is c))
 
 -- ---- the rows found have their steps written
 width : (c : tie.After-visit-arg) → c.before.width_of_lem.result ≡ row_width (entry c).args.list
@@ -44,8 +44,8 @@ steps-due c κs =
     let out = g.out.now in
     let cap = capacity w in
     let made = found.visit.ensures in
-    let fit = laws.kept-fit g.list g.after g.last.now out cap e.pre.0 made (laws.fitting-room g.list out (capacity_is w)) in
-    let due = laws.kept-have-steps g.list g.after g.last.now out cap e.pre.0 made in
+    let fit = laws.kept_fit g.list g.after g.last.now out cap e.pre.0 made (laws.fitting_room g.list out (capacity_is w)) in
+    let due = laws.kept_have_steps g.list g.after g.last.now out cap e.pre.0 made in
     rw (width w) ((e.pre.0.degree, omega (arith, e.pre.0.top.low), fit), due)
 
 all_found : tie.Need-returns

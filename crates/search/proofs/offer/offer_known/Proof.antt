@@ -36,7 +36,7 @@ returns : tie.Need-returns
 returns c =
     let s = c.before.before in
     let a = (at s).args in
-    laws.offer-passed a.f a.last.now (state s) (row s) (sym c.before.is-above.ensures ∙ not-true _ c.if1.true)
+    laws.offer_passed a.f a.last.now (state s) (row s) (sym c.before.is-above.ensures ∙ not-true _ c.if1.true)
 
 -- ---- a row above the cut
 abbrev passed : tie.After-keep-row-arg → tie.Else1
@@ -56,7 +56,7 @@ returns-2 c =
     let above = passed (kept c).before in
     let s = above.before.before in
     let a = (at s).args in
-    laws.offer-counted a.f a.last.now (state s) (row s) (sym above.before.is-above.ensures ∙ not-false _ above.if1.left)
+    laws.offer_counted a.f a.last.now (state s) (row s) (sym above.before.is-above.ensures ∙ not-false _ above.if1.left)
     (kept c).keep_row.ensures
 
 pub offer_known_spec : {M : Type 1} → statement M

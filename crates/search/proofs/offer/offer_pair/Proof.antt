@@ -29,7 +29,7 @@ returns : tie.Need-returns
 returns c =
     let l = c.before.before in
     let a = (at l).args in
-    laws.pair-without-orders a.f a.last.now (state l) a.p a.q (sym c.before.have-full-orders.ensures ∙ not-true _ c.if1.true)
+    laws.pair_without_orders a.f a.last.now (state l) a.p a.q (sym c.before.have-full-orders.ensures ∙ not-true _ c.if1.true)
 
 -- ---- the pair is accepted
 abbrev listed : tie.Else1 → tie.After-list
@@ -39,7 +39,7 @@ accepted_pair : (c : tie.Else1) → let a = (at (listed c)).args in accepted a.f
 accepted_pair c =
     let l = listed c in
     let a = (at l).args in
-    laws.pair-accepted a.f a.last.now (state l) a.p a.q (sym c.before.have-full-orders.ensures ∙ not-false _ c.if1.false)
+    laws.pair_accepted a.f a.last.now (state l) a.p a.q (sym c.before.have-full-orders.ensures ∙ not-false _ c.if1.false)
     (at l).pre.1.1
 
 reaches-floor-requires : tie.Need-reaches-floor-requires
@@ -52,7 +52,7 @@ returns-2 : tie.Need-returns-2
 returns-2 c =
     let l = listed c.before.before in
     let a = (at l).args in
-    laws.pair-below-floor a.f a.last.now (state l) a.p a.q (sym c.before.reaches-floor.ensures ∙ not-true _ c.if2.true)
+    laws.pair_below_floor a.f a.last.now (state l) a.p a.q (sym c.before.reaches-floor.ensures ∙ not-true _ c.if2.true)
 
 -- ---- the step reaches the floor
 abbrev accepted-at : tie.Else2 → tie.Else1
@@ -74,7 +74,7 @@ returns-3 c =
     let accepted = accepted-at reaching in
     let l = listed accepted in
     let a = (at l).args in
-    laws.pair-offered a.f a.last.now (state l) a.p a.q (accepted_pair accepted) (reached reaching) offered.offer-row.ensures
+    laws.pair_offered a.f a.last.now (state l) a.p a.q (accepted_pair accepted) (reached reaching) offered.offer-row.ensures
 
 pub offer_pair_spec : {M : Type 1} → statement M
 offer_pair_spec =

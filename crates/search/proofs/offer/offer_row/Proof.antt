@@ -34,7 +34,7 @@ returns : tie.Need-returns
 returns c =
     let w = weighed c.before.before in
     let a = (at w.before).args in
-    laws.low-offered a.f a.last.now (state w.before) a.p a.q (written w) w.weigh.ensures c.enum_told.given.1
+    laws.low_offered a.f a.last.now (state w.before) a.p a.q (written w) w.weigh.ensures c.enum_told.given.1
 
 abbrev high : tie.After-struct-known → tie.After-enum-told2
 high c = c.before
@@ -46,7 +46,7 @@ returns-2 : tie.Need-returns-2
 returns-2 c =
     let w = weighed (high c).before.before in
     let a = (at w.before).args in
-    laws.high-offered a.f a.last.now (state w.before) a.p a.q (written w) w.weigh.ensures (high c).enum-told2.given.1
+    laws.high_offered a.f a.last.now (state w.before) a.p a.q (written w) w.weigh.ensures (high c).enum-told2.given.1
 
 -- ---- where that is open
 abbrev opened : tie.After-numbers3 → tie.After-weigh
@@ -57,7 +57,7 @@ write-delta-requires c κs =
     let w = opened c in
     let s = w.before in
     let a = (at s).args in
-    let valued = laws.open-valued a.f a.last.now (state s) a.p a.q (written w) w.weigh.ensures c.before.enum-told3.given.1 in
+    let valued = laws.open_valued a.f a.last.now (state s) a.p a.q (written w) w.weigh.ensures c.before.enum-told3.given.1 in
     ((searching s).framed.lawful, ((at s).pre.1.0, valued))
 
 -- The row's numbers are all written but the step.

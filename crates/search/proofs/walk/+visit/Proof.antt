@@ -55,13 +55,13 @@ module _ (t : ℕ) where
   offer_pair_requires c κs =
       let r = ready_leaf c.before in
       let z = c.before.if1.true in
-      (laws.leaf-searching r z, (laws.leaf-well-formed r z, laws.leaf-linear r z))
+      (laws.leaf_searching r z, (laws.leaf_well_formed r z, laws.leaf_linear r z))
 
   returns : visit-lts.Need-returns (calls t) (here t) visit.Post
   returns c =
       let offered = c.before.before in
       let leaf = offered.before.before in
-      laws.leaf-done (ready_leaf leaf) leaf.if1.true offered.offer-pair.ensures
+      laws.leaf_done (ready_leaf leaf) leaf.if1.true offered.offer-pair.ensures
 
   -- ---- at a node: its first child, what was found below it, and its second child
   abbrev Node : Type 0
@@ -71,10 +71,10 @@ module _ (t : ℕ) where
   ready_node c = (at c.before).requires.1
 
   child_requires : visit-lts.Need-child-requires (calls t) (here t) visit.Post
-  child_requires c κs = (two_linear, laws.node-fits (ready_node c) c.if1.false)
+  child_requires c κs = (two_linear, laws.node_fits (ready_node c) c.if1.false)
 
   visit_requires : visit-lts.Need-visit-requires (calls t) (here t) visit.Post
-  visit_requires c κs = let node = c.before.before in (omega arith, laws.left-ready (ready_node node) node.if1.false c.before.child.ensures)
+  visit_requires c κs = let node = c.before.before in (omega arith, laws.left_ready (ready_node node) node.if1.false c.before.child.ensures)
 
   abbrev half : visit-lts.After-slice-known3 (calls t) (here t) visit.Post → visit-lts.After-visit (calls t) (here t) visit.Post
   half c = c.before.before
@@ -83,14 +83,14 @@ module _ (t : ℕ) where
   first c = c.before.before
 
   child_requires_2 : visit-lts.Need-child-requires-2 (calls t) (here t) visit.Post
-  child_requires_2 c κs = let node = (first (half c)).before in (three_linear, laws.node-fits (ready_node node) node.if1.left)
+  child_requires_2 c κs = let node = (first (half c)).before in (three_linear, laws.node_fits (ready_node node) node.if1.left)
 
   visit_requires_2 : visit-lts.Need-visit-requires-2 (calls t) (here t) visit.Post
   visit_requires_2 c κs =
       let second = c.before in
       let found = half second.before in
       let node = (first found).before in
-      (omega arith, laws.right-ready (ready_node node) node.if1.left (first found).child.ensures second.child2.ensures found.visit.ensures)
+      (omega arith, laws.right_ready (ready_node node) node.if1.left (first found).child.ensures second.child2.ensures found.visit.ensures)
 
   returns_2 : visit-lts.Need-returns-2 (calls t) (here t) visit.Post
   returns_2 c =

@@ -64,7 +64,7 @@ use Rattle.catalogue_reader.proofs.next.Met as next-thm
 use Rattle.catalogue_reader.specs.contracts.advance as advance
 use Rattle.catalogue_reader.proofs.advance.Symbol as advance-def
 use Rattle.catalogue_reader.proofs.advance.Met as advance-thm
-use Rattle.test_catalogues.specs.Shown.{is_row}
+use Rattle.test_catalogues.specs.Shown.{row_said}
 use Rattle.test_catalogues.proofs.Moved.{Nearer, nearer_wf, moved_on}
 use Rattle.test_catalogues.specs.contracts.print.shown as shown
 use Rattle.test_catalogues.proofs.print.shown.Symbol as shown-def
@@ -213,8 +213,8 @@ module _ {M : Type 1} {𝓤 : Ura M} (𝓛 : Logic 𝓤) (mem : Memory → SProp
   goes_shown : (t : NextRow) (u : Val) → ent 𝓤 (sem 𝓛 ((S.the_row).own_val t (u ∷ []))) ((Shows 𝓛 mem run).pre (to_shown t u))
   goes_shown t u = qed 𝓛 (‵ ((S.the_row).own_val t (u ∷ [])) ∷ []) ∵ nothing ! $ move ! (1 ∷ 0 ∷ []) $ fjoin ! $ nothing ! $ join ! $ frame ! $ done !
 
-  shown_said : (t : NextRow) (b : Bool) → ent 𝓤 (ensured 𝓛 shown.ended (shown.clauses 𝓛 mem run) tt (t, tt) tt b) (fact 𝓤 (b ≡ is_row t))
-  shown_said t b = ex_e 𝓤 _ (λ ws. snd∗ 𝓤 (sem 𝓛 (lasts shown.ended tt (t, tt) ws)) (fact 𝓤 (b ≡ is_row t)))
+  shown_said : (t : NextRow) (b : Bool) → ent 𝓤 (ensured 𝓛 shown.ended (shown.clauses 𝓛 mem run) tt (t, tt) tt b) (fact 𝓤 (b ≡ row_said t))
+  shown_said t b = ex_e 𝓤 _ (λ ws. snd∗ 𝓤 (sem 𝓛 (lasts shown.ended tt (t, tt) ws)) (fact 𝓤 (b ≡ row_said t)))
 
   abbrev to_says : ℕ → (Says 𝓛 mem run).Ghost
   to_says n = ((tt, tt, tt, (n, tt), (vint w32 n ∷ [], tt)), tt)
@@ -291,7 +291,7 @@ module _ {M : Type 1} {𝓤 : Ura M} (𝓛 : Logic 𝓤) (mem : Memory → SProp
               (and_then ! (load ! (from ! (stop !)) (look ! (at 4 7) refl)) (no_more !)) (λ u₆.
               use1 𝓛 (later (some (λ (b : Bool). (‵ ftrue ⊛ ‵ (bool.own_val b (u₆ ∷ [])))
               ⊛ raw (ensured 𝓛 shown.ended (shown.clauses 𝓛 mem run) tt (t, tt) tt b)))) (id⊢ 𝓤 _) $ await ! tt $ pick ! (λ b.
-              split ! $ move ! (1 ∷ []) $ use1 𝓛 (raw (fact 𝓤 (b ≡ is_row t))) (shown_said t b) $ heard ! (b ≡ is_row t) (λ row_said. split ! $ let_go ! $
+              split ! $ move ! (1 ∷ []) $ use1 𝓛 (raw (fact 𝓤 (b ≡ row_said t))) (shown_said t b) $ heard ! (b ≡ row_said t) (λ row_said. split ! $ let_go ! $
               -- [whether it is a row; the token; what the reader owns; the file's slice; room for _9; …]
               peeks ! bool (Is bool) (shows 𝓛 bool) b (u₆ ∷ []) (λ is₆.
               land ! (from ! (stop !)) (init ! (at 4 6) refl ((bool_Lawful 𝓛).typed b _ is₆).0) $
@@ -314,7 +314,7 @@ module _ {M : Type 1} {𝓤 : Ura M} (𝓛 : Logic 𝓤) (mem : Memory → SProp
               rewrite ! 0 (λ (x : Val). ‵ ((Held κs).own_val r' (x ∷ []))) (told r' u₃ is₃) refl $
               forget ! (at 3 6) refl $ forget ! (at 3 7) refl $ forget ! (at 3 8) refl $ forget ! (at 3 9) refl $
               again ! Nearer At r r'
-              (moved_on r r' (ap is_row (sym is-here) ∙ sym row_said ∙ passes b more) moved.1 moved.5))))))
+              (moved_on r r' (ap row_said (sym is-here) ∙ sym row_said ∙ passes b more) moved.1 moved.5))))))
               (λ over. forget ! (at 3 6) refl $ forget ! (at 3 7) refl $ forget ! (at 3 8) refl $ move ! (1 ∷ 0 ∷ []) $ jumps ! $ leave))))))))))
 
     walk : Is Lent s (slice ∷ [])
