@@ -1,4 +1,6 @@
 // Tables of additive functions. A table doubles: the entries behind the first n are those with one value added. Customers call nothing here.
+#![tactic(auto)]
+
 ghost use Rattle.std.specs.Prelude.{◌+◌, ◌≤◌, length};
 ghost use Rattle.additive_tables.specs.Spreading.{Spread};
 

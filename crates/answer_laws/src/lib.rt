@@ -1,1 +1,2 @@
 // Laws of answers, over the definitions. No functions.
+#![tactic(auto)]

@@ -1,4 +1,6 @@
 // What refusals say, as documents 01 and 02 have it: their numbers, and the K that 5 carries.
+#![tactic(auto)]
+
 ghost use Rattle.std.specs.Prelude.{◌≡◌};
 ghost use Rattle.definitions.specs.Answers.{refusal_number, refusal_degree};
 

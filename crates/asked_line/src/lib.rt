@@ -1,4 +1,6 @@
 // The line that is asked with: its numbers, and the defaults where it has fewer. Customers call `listing::read_line`.
+#![tactic(auto)]
+
 ghost use Rattle.std.specs.Prelude.{◌≡◌};
 ghost use Rattle.definitions.specs.Listing.{read_line};
 

@@ -1,6 +1,8 @@
 // The baby steps q, q x, q x^2, .. in chains by their low digits, so that one of them is found by a few comparisons. The place of q x^j is j + 1, with the
 // residue in value[j] and the place before it in its chain in next[j]; `first` has the last place of each chain, and 0 stands for none. Customers call
 // nothing here.
+#![tactic(auto)]
+
 ghost use Rattle.std.specs.Prelude.{◌≡◌, ◌-◌, ◌<◌};
 ghost use Rattle.definitions.specs.Number.{largest};
 ghost use Rattle.number_laws.specs.Bounds.{Between};

@@ -1,4 +1,6 @@
 // Whether the rows of a body are of the form. Customers call nothing here.
+#![tactic(auto)]
+
 ghost use Rattle.std.specs.Prelude.{◌≡◌, ◌+◌, ◌*◌, ◌^◌, ◌≤◌, length};
 ghost use Rattle.definitions.specs.Catalogue.{numbers_size, values_size, row_size, row_form};
 ghost use Rattle.number_laws.specs.Bounds.{LawfulDegree, LawfulTop};

@@ -1,5 +1,7 @@
 // Points counted in the boxes of one shape, the other half of `counter`: `box_numbers` has the array of points, the shape, and the box that each point
 // lies in. Customers call nothing here.
+#![tactic(auto)]
+
 ghost use Rattle.std.specs.Prelude.{◌≡◌, ◌^◌, ◌-◌, ◌≤◌, eqb, take, get_or};
 ghost use Rattle.definitions.specs.Number.{every};
 ghost use Rattle.net_laws.specs.Net.{total};

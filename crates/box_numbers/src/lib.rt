@@ -1,6 +1,8 @@
 // The boxes of one shape, which takes shape[j] leading digits of coordinate j: these digits, as one number, tell the box that a point lies in. The
 // array of points is that of `counter`: coordinate j of the point h stands at j 2^m + h, as the number that its first m digits write. Customers call
 // nothing here.
+#![tactic(auto)]
+
 ghost use Rattle.std.specs.Prelude.{◌^◌, take};
 ghost use Rattle.counting_laws.specs.Points.{Shaped, Appendable, Appended, Boxed};
 

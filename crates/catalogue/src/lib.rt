@@ -1,4 +1,6 @@
 // A customer's catalogue: open it, look a degree up. The bytes come unchecked, and a file's form is tested once a call.
+#![tactic(auto)]
+
 ghost use Rattle.std.specs.Prelude.{◌≡◌};
 ghost use Rattle.definitions.specs.Catalogue.{opening, lookup_numbers, lookup_part};
 

@@ -1,4 +1,6 @@
 // The body of a ranked list, written over a buffer: its rows, as many at a time as there are at hand. Customers call nothing here.
+#![tactic(auto)]
+
 ghost use Rattle.std.specs.Prelude.{◌≡◌, ◌+◌, ◌*◌, ◌≤◌, length};
 ghost use Rattle.definitions.specs.Number.{over};
 ghost use Rattle.definitions.specs.Ranking.{row_width, ranked};

@@ -1,5 +1,7 @@
 // The entries that a catalogue is asked for, in a lent slice that comes unchecked: degree, T, degree, T, .., with T + 16 for T where the rows are to
 // have Δ, each at the floor of the file. Customers call nothing here.
+#![tactic(auto)]
+
 ghost use Rattle.std.specs.Prelude.{◌≡◌, ℕ, ◌+◌, ◌<◌, length, get_or};
 ghost use Rattle.definitions.specs.Writing.{entries_of};
 ghost use Rattle.catalogue_entries.specs.Entries.{entry_in};

@@ -1,4 +1,6 @@
 // Whether bytes are a catalogue: the form of its entries, and of the whole. The bytes come unchecked.
+#![tactic(auto)]
+
 pub mod entries;
 
 ghost use Rattle.std.specs.Prelude.{◌≡◌};

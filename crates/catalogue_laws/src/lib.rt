@@ -1,1 +1,2 @@
 // Laws of catalogues. No code.
+#![tactic(auto)]

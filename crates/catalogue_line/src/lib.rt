@@ -1,5 +1,7 @@
 // What the program that writes a catalogue answers to a line, in two lent buffers: the file that goes to standard output, and the line of a refusal
 // that goes to standard error. One of the two is empty.
+#![tactic(auto)]
+
 ghost use Rattle.std.specs.Prelude.{◌≡◌, ◌<◌, ◌≤◌, length};
 ghost use Rattle.definitions.specs.Number.{over};
 ghost use Rattle.definitions.specs.Listing.{refused_text};
@@ -21,7 +23,7 @@ pub const TEXT_ROOM: usize = 19;
 const UNREADABLE: u32 = 0;
 
 // How many bytes there are of the file and of the line of a refusal.
-#[derive(Drop)]
+#[derive(Clone, Copy)]
 pub struct Output {
     pub file: usize,
     pub text: usize,

@@ -1,5 +1,7 @@
 // Where the first body of a file of lawful entries lies, and how long the file is: each list is counted by a search of its own. Customers call
 // nothing here.
+#![tactic(auto)]
+
 ghost use Rattle.std.specs.Prelude.{◌≡◌, ◌*◌, length};
 ghost use Rattle.definitions.specs.Ranking.{ranked};
 ghost use Rattle.definitions.specs.Catalogue.{row_size};
@@ -14,7 +16,7 @@ use definitions::Selection;
 use page_rows::count::count_rows;
 
 // The place behind the entries, where the first body lies, and the length of the file.
-#[derive(Drop)]
+#[derive(Clone, Copy)]
 pub struct Measure {
     pub contents: usize,
     pub length: usize,

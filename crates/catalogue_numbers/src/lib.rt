@@ -1,4 +1,6 @@
 // Numbers in bytes, big-endian, written over a buffer. Customers call nothing here.
+#![tactic(auto)]
+
 ghost use Rattle.std.specs.Prelude.{◌≡◌, ℕ, ◌+◌, ◌<◌, ◌≤◌, length, take, drop, get_or};
 ghost use Rattle.definitions.specs.Number.{over};
 ghost use Rattle.definitions.specs.Writing.{bytes_of};

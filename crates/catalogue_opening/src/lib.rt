@@ -1,10 +1,12 @@
 // What a reader is opened with: the number of the refusal, and the place of its body in the file, with T and the kind. Customers call nothing here.
+#![tactic(auto)]
+
 ghost use Rattle.catalogue_opening.specs.Opened.{Opened};
 
 use catalogue_seek::Located;
 
 // The number of the refusal, 0 where there is none; the part's place in the file, its size, T, and whether the rows have Δ.
-#[derive(Drop)]
+#[derive(Clone, Copy)]
 pub struct OpenedPart {
     pub refusal: u32,
     pub offset: usize,

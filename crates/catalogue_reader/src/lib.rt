@@ -1,4 +1,6 @@
 // Reading a body row by row, from the degree that a reader is opened with to the end of its body.
+#![tactic(auto)]
+
 pub mod part;
 
 ghost use Rattle.std.specs.Prelude.{◌≡◌};

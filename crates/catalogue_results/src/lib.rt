@@ -1,4 +1,6 @@
 // Answers about catalogues as structs that C takes by value: an opening, a degree's body, a file that was written.
+#![tactic(auto)]
+
 ghost use Rattle.std.specs.Prelude.{◌≡◌};
 ghost use Rattle.definitions.specs.Answers.{opening_values, file_values};
 ghost use Rattle.catalogue_results.specs.Results.{catalogue_result, body_result, file_result};
@@ -8,7 +10,7 @@ use definitions::{FileAnswer, Opening};
 
 // How many degrees a catalogue has.
 #[repr(C)]
-#[derive(Drop)]
+#[derive(Clone, Copy)]
 pub struct FenyurkaCatalogue {
     pub refusal: u32,
     pub entries: u32,
@@ -31,7 +33,7 @@ pub fn catalogue(answer: Opening) -> FenyurkaCatalogue
 
 // A degree's body: its top dimension, whether its rows have Δ, and its row count; in bytes, its place in the file, its length and the size of a row.
 #[repr(C)]
-#[derive(Drop)]
+#[derive(Clone, Copy)]
 pub struct FenyurkaBody {
     pub refusal: u32,
     pub top: u32,
@@ -69,7 +71,7 @@ pub fn body(answer: Located) -> FenyurkaBody
 
 // How many bytes were written.
 #[repr(C)]
-#[derive(Drop)]
+#[derive(Clone, Copy)]
 pub struct FenyurkaFile {
     pub refusal: u32,
     pub length: usize,

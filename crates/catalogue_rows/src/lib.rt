@@ -1,4 +1,6 @@
 // Rows of a body, by their places: the row at a place, and the place behind it.
+#![tactic(auto)]
+
 pub mod rows;
 
 ghost use Rattle.std.specs.Prelude.{◌≡◌};

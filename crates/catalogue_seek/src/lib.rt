@@ -1,4 +1,6 @@
 // Where a degree's body lies in a catalogue that comes unchecked. Customers call nothing here.
+#![tactic(auto)]
+
 ghost use Rattle.std.specs.Prelude.{◌≡◌, ◌≤◌, length};
 ghost use Rattle.definitions.specs.Catalogue.{contents_end, entry_of};
 ghost use Rattle.catalogue_seek.specs.Seek.{locating};
@@ -8,7 +10,7 @@ use definitions::Refusal;
 
 // A body: its place in the file and its size, the size of a row (from one row to the next), the top dimension, whether the rows have Δ, and the row
 // count.
-#[derive(Drop)]
+#[derive(Clone, Copy)]
 pub struct BodyPlace {
     pub offset: usize,
     pub size: usize,
@@ -19,7 +21,7 @@ pub struct BodyPlace {
 }
 
 // Where a degree's body is, or why the lookup is refused.
-#[derive(Drop)]
+#[derive(Clone, Copy)]
 pub enum Located {
     At(BodyPlace),
     Missing(Refusal),

@@ -1,4 +1,6 @@
 // Writes a catalogue: the file of the ranked lists that entries ask for, into a lent buffer. Entries and buffer come unchecked.
+#![tactic(auto)]
+
 ghost use Rattle.std.specs.Prelude.{◌≡◌};
 ghost use Rattle.definitions.specs.Writing.{file_answer, file_buffer};
 

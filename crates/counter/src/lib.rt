@@ -1,5 +1,7 @@
 // The t-value by counting, as the definition has it, for degrees up to 8: all 2^m points stand in an array, and for every shape, a way to share m - t
 // digits among the coordinates, `box_counts` counts the points in each box.
+#![tactic(auto)]
+
 ghost use Rattle.std.specs.Prelude.{◌≡◌, ◌-◌};
 ghost use Rattle.definitions.specs.Number.{first};
 ghost use Rattle.definitions.specs.Points.{leading, coordinate};

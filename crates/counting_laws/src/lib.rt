@@ -1,1 +1,2 @@
 // Laws of points counted box by box; no functions.
+#![tactic(auto)]

@@ -9,14 +9,14 @@ use page_rows::serve;
 use row_places::width_of;
 
 // Which list is read, and the position behind the rows that were handed out.
-#[derive(Drop)]
+#[derive(Clone, Copy)]
 pub struct Cursor {
     pub list: Selection,
     pub position: Position,
 }
 
 // What was handed out: how many rows, whether rows are left, and the cursor behind them.
-#[derive(Drop)]
+#[derive(Clone, Copy)]
 pub struct Portion {
     pub rows: usize,
     pub more: bool,

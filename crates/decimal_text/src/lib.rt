@@ -1,5 +1,7 @@
 // The text of a number, put at a place of a buffer: where it fits, the answer is the place behind it; where it does not, nothing is written
 // and the answer is the place itself.
+#![tactic(auto)]
+
 ghost use Rattle.std.specs.Prelude.{◌≡◌};
 ghost use Rattle.definitions.specs.Listing.{decimal};
 ghost use Rattle.slice_laws.specs.Place.{placed, behind};

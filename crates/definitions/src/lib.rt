@@ -1,8 +1,9 @@
 // The public types: what a customer asks with, and what each call answers. No functions.
+#![tactic(auto)]
 
 // Which ranked list is meant: its degree, its top dimension T, its floor, the smallest step that its pairs may have, and whether its rows have Δ,
 // the sum of resolution gaps.
-#[derive(Drop)]
+#[derive(Clone, Copy)]
 pub struct Selection {
     pub degree: u32,
     pub top: u32,
@@ -11,14 +12,14 @@ pub struct Selection {
 }
 
 // Where a page begins: at the start of the ranked list, or after the pair (p, q).
-#[derive(Drop)]
+#[derive(Clone, Copy)]
 pub enum Position {
     Start,
     After(u32, u32),
 }
 
 // A request for a page: the degree, the top dimension T, the floor, whether Δ is wanted, and the position.
-#[derive(Drop)]
+#[derive(Clone, Copy)]
 pub struct PageRequest {
     pub degree: u32,
     pub top: u32,
@@ -29,7 +30,7 @@ pub struct PageRequest {
 
 // Why a call refuses. `specs/Answers.antt` gives each its number. A quotient that is not linear comes with K, the largest degree among the partial
 // quotients.
-#[derive(Drop)]
+#[derive(Clone, Copy)]
 pub enum Refusal {
     WrongDegree,
     WrongDimension,
@@ -48,63 +49,63 @@ pub enum Refusal {
 }
 
 // Judging a pair: its step.
-#[derive(Drop)]
+#[derive(Clone, Copy)]
 pub enum Judgement {
     Accepted(u32),
     Rejected(Refusal),
 }
 
 // The quotient test: K, the largest degree among the partial quotients, and the degree of the common factor.
-#[derive(Drop)]
+#[derive(Clone, Copy)]
 pub enum QuotientTest {
     Degrees(u32, u32),
     Untested(Refusal),
 }
 
 // A single t-value.
-#[derive(Drop)]
+#[derive(Clone, Copy)]
 pub enum Uniformity {
     Value(u32),
     Undefined(Refusal),
 }
 
 // The sum of resolution gaps Δ.
-#[derive(Drop)]
+#[derive(Clone, Copy)]
 pub enum GapSum {
     Sum(u32),
     NoSum(Refusal),
 }
 
 // A page: how many rows were written, and whether a further row exists.
-#[derive(Drop)]
+#[derive(Clone, Copy)]
 pub enum PageAnswer {
     Page(usize, bool),
     NoPage(Refusal),
 }
 
 // Points: how many words were written.
-#[derive(Drop)]
+#[derive(Clone, Copy)]
 pub enum PointsAnswer {
     Written(usize),
     NotWritten(Refusal),
 }
 
 // Opening a catalogue: how many degrees it has.
-#[derive(Drop)]
+#[derive(Clone, Copy)]
 pub enum Opening {
     Entries(u32),
     Closed(Refusal),
 }
 
 // What a lookup tells of a degree's body: the top dimension, whether its rows have Δ, and the row count.
-#[derive(Drop)]
+#[derive(Clone, Copy)]
 pub enum Lookup {
     Body(u32, bool, u32),
     NoBody(Refusal),
 }
 
 // A row of a catalogue: the pair, its step, t(3) .. t(8), 0 above the body's top dimension, and Δ, 0 where the body's rows have none.
-#[derive(Drop)]
+#[derive(Clone, Copy)]
 pub struct Row {
     pub p: u32,
     pub q: u32,
@@ -119,7 +120,7 @@ pub struct Row {
 }
 
 // What a reader hands out: the next row, or that it is at the end.
-#[derive(Drop)]
+#[derive(Clone, Copy)]
 pub enum NextRow {
     Found(Row),
     End,
@@ -127,7 +128,7 @@ pub enum NextRow {
 
 // A catalogue's reader: the number of the refusal, 0 where there is none; the lent body, its degree and top dimension, whether its rows have Δ, and the
 // place of the next row.
-#[derive(Drop)]
+#[derive(Clone, Copy)]
 pub struct Reader<'a> {
     pub refusal: u32,
     pub body: &'a [u8],
@@ -138,14 +139,14 @@ pub struct Reader<'a> {
 }
 
 // Writing a catalogue: the length of the file.
-#[derive(Drop)]
+#[derive(Clone, Copy)]
 pub enum FileAnswer {
     File(usize),
     NoFile(Refusal),
 }
 
 // The line that the listing reads: degree, top dimension, page size and floor.
-#[derive(Drop)]
+#[derive(Clone, Copy)]
 pub enum Line {
     Asked(u32, u32, u32, u32),
     Unreadable,

@@ -1,1 +1,2 @@
 // No code: the customer's demands as theorems, in specs/.
+#![tactic(auto)]

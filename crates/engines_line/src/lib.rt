@@ -1,5 +1,7 @@
 // The line that has the t-value of a pair by both engines. It is put at a place of a buffer: where it fits, the answer is the place behind it; where it does
 // not, nothing is written and the answer is the place itself. Customers call nothing here.
+#![tactic(auto)]
+
 ghost use Rattle.std.specs.Prelude.{◌≡◌};
 ghost use Rattle.definitions.specs.Recount.{both_text};
 ghost use Rattle.slice_laws.specs.Place.{placed, behind};

@@ -1,4 +1,6 @@
 // The entries of a catalogue's contents, read where they lie: each is as long as its degree makes it. Customers call nothing here.
+#![tactic(auto)]
+
 ghost use Rattle.std.specs.Prelude.{◌≡◌, ◌≤◌, length};
 ghost use Rattle.definitions.specs.Catalogue.{byte_at, first_entry, most_entries, entry_at, behind_entry, behind_entries, body_size};
 ghost use Rattle.number_laws.specs.Bounds.{LawfulTop};
@@ -6,7 +8,7 @@ ghost use Rattle.entry_reading.specs.Entries.{as_entry};
 
 use catalogue_bytes::{bytes, sizes};
 
-#[derive(Drop)]
+#[derive(Clone, Copy)]
 pub struct Entry {
     pub degree: u32,
     pub top: u32,

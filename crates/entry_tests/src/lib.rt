@@ -1,4 +1,6 @@
 // The tests of the entries that a catalogue is asked for: lawful degrees, lawful T, and degrees that ascend. Customers call nothing here.
+#![tactic(auto)]
+
 ghost use Rattle.std.specs.Prelude.{◌≡◌, ◌&&◌};
 ghost use Rattle.definitions.specs.Writing.{entries_of, ascending};
 ghost use Rattle.entry_tests.specs.Tests.{lawful_of};
@@ -6,7 +8,7 @@ ghost use Rattle.entry_tests.specs.Tests.{lawful_of};
 use catalogue_entries::{count, entry};
 
 // Whether each degree is lawful, and whether each T is.
-#[derive(Drop)]
+#[derive(Clone, Copy)]
 pub struct Lawful {
     pub degrees: bool,
     pub tops: bool,

@@ -1,5 +1,7 @@
 // The figures of a pair, its t-value and Δ, as a struct that C takes by value: the refusal's number, 0 where there is none, and the figure, 0 where there is
 // none.
+#![tactic(auto)]
+
 ghost use Rattle.std.specs.Prelude.{◌≡◌};
 ghost use Rattle.definitions.specs.Answers.{uniformity_values, gap_sum_values};
 ghost use Rattle.figure_results.specs.Results.{t_value_result, gaps_result};
@@ -8,7 +10,7 @@ use definitions::{GapSum, Uniformity};
 
 // A t-value.
 #[repr(C)]
-#[derive(Drop)]
+#[derive(Clone, Copy)]
 pub struct FenyurkaTValue {
     pub refusal: u32,
     pub t: u32,
@@ -28,7 +30,7 @@ pub fn t_value(answer: Uniformity) -> FenyurkaTValue
 
 // The sum of resolution gaps Δ.
 #[repr(C)]
-#[derive(Drop)]
+#[derive(Clone, Copy)]
 pub struct FenyurkaGaps {
     pub refusal: u32,
     pub delta: u32,

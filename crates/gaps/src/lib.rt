@@ -1,4 +1,6 @@
 // The sum of resolution gaps of a pair, Δ.
+#![tactic(auto)]
+
 ghost use Rattle.std.specs.Prelude.{◌≡◌};
 ghost use Rattle.definitions.specs.Calls.{gap_sum};
 

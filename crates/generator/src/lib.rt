@@ -1,4 +1,6 @@
 // Judging a pair (p, q): its step, or why it is refused.
+#![tactic(auto)]
+
 ghost use Rattle.std.specs.Prelude.{◌≡◌};
 ghost use Rattle.definitions.specs.Calls.{judgement};
 

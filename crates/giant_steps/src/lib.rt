@@ -1,6 +1,8 @@
 // The step of a row by giant steps. With B = 2^(m/2), the B residues q, q x, .., q x^(B-1) are the baby steps, and x^B, x^(2B), .. the giant ones. The
 // first giant step x^(Bi) that is a baby step, q x^j, tells the step Bi - j. Judging keeps the plain finder of `orders`, as document 01 has it. Customers
 // call nothing here.
+#![tactic(auto)]
+
 ghost use Rattle.std.specs.Prelude.{◌≡◌, true};
 ghost use Rattle.definitions.specs.Generator.{primitive, step};
 ghost use Rattle.number_laws.specs.Bounds.{LawfulDegree};

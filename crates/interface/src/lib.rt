@@ -1,6 +1,8 @@
 // The public calls for C, as include/fenyurka.h declares them: structs go in and out by value, and only slices are behind pointers.
 // A result holds the refusal's number, 0 where there is none, the K that refusal 5 carries, 0 for any other, and the values, 0 where there are none.
 // A refusal writes into no slice.
+#![tactic(auto)]
+
 ghost use Rattle.std.specs.Prelude.{◌≡◌};
 ghost use Rattle.definitions.specs.Answers.{judgement_values, quotient_test_values, uniformity_values, gap_sum_values, page_values, points_values};
 ghost use Rattle.definitions.specs.Answers.{opening_values, file_values};
@@ -23,7 +25,7 @@ use slice_results::{FenyurkaPage, FenyurkaPoints};
 
 // Which ranked list is meant: the degree, the top dimension, the floor, and whether its rows have Δ: 0 where not, any other number where so.
 #[repr(C)]
-#[derive(Drop)]
+#[derive(Clone, Copy)]
 pub struct FenyurkaList {
     pub degree: u32,
     pub top: u32,

@@ -1,4 +1,6 @@
 // What the library covers: its degrees, its dimensions, its top dimensions and its floors. These bounds stand nowhere else in the code.
+#![tactic(auto)]
+
 ghost use Rattle.std.specs.Prelude.{◌≡◌, ◌&&◌, leb};
 ghost use Rattle.definitions.specs.Calls.{counted_degree};
 ghost use Rattle.definitions.specs.Generator.{lawful_degree, lawful_floor};

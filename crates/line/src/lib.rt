@@ -1,4 +1,6 @@
 // A line of numbers in decimal, single spaces between, read into a slice: for every program that is asked by a line.
+#![tactic(auto)]
+
 ghost use Rattle.std.specs.Prelude.{◌≡◌, ◌-◌, ◌≤◌, length};
 ghost use Rattle.definitions.specs.Number.{over};
 ghost use Rattle.definitions.specs.Listing.{numbers_within};

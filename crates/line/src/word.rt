@@ -8,7 +8,7 @@ ghost use Rattle.line.specs.Word.{word_of};
 const MOST_DIGITS: usize = 9;
 
 // A word: a number or none.
-#[derive(Drop)]
+#[derive(Clone, Copy)]
 pub enum Word {
     Number(u32),
     NoNumber,

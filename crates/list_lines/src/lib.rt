@@ -1,5 +1,7 @@
 // The lines above a list, below it and in its place, put at a place of a buffer: where a line fits, the answer is the place behind it; where it
 // does not, nothing is written and the answer is the place itself. Customers call them by `listing`.
+#![tactic(auto)]
+
 ghost use Rattle.std.specs.Prelude.{◌≡◌};
 ghost use Rattle.definitions.specs.Listing.{header_text, total_text, refused_text};
 ghost use Rattle.slice_laws.specs.Place.{placed, behind};

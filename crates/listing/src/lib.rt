@@ -1,5 +1,7 @@
 // The line that is read and the text that is printed, on byte slices. A text is put at a place of a buffer: where it fits, the answer
 // is the place behind it; where it does not, nothing is written and the answer is the place itself.
+#![tactic(auto)]
+
 ghost use Rattle.std.specs.Prelude.{◌≡◌};
 ghost use Rattle.definitions.specs.Listing.{decimal, header_text, row_text, page_text, total_text, refused_text, read_line};
 ghost use Rattle.slice_laws.specs.Place.{placed, behind};

@@ -9,7 +9,7 @@ use cursor::reading;
 use listing_start::Printing;
 
 // A part that was put: its bytes, whether more is left, and what.
-#[derive(Drop)]
+#[derive(Clone, Copy)]
 pub struct Part {
     pub bytes: usize,
     pub more: bool,

@@ -1,5 +1,7 @@
 // What is printed upon a line: `start` reads the line and decides, and what is left to print is a value, whose text is the listing of the line.
 // `listing_parts` puts that text part by part.
+#![tactic(auto)]
+
 ghost use Rattle.std.specs.Prelude.{◌≡◌};
 ghost use Rattle.definitions.specs.Listing.{read_line};
 ghost use Rattle.listing_start.specs.Decision.{printing_of};
@@ -10,7 +12,7 @@ use cursor::reading::Cursor;
 use definitions::{Line, Selection};
 
 // What is left to print.
-#[derive(Drop)]
+#[derive(Clone, Copy)]
 pub enum Printing {
     // The line of a refusal,
     Refused(u32),

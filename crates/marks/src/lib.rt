@@ -1,5 +1,7 @@
 // The number that says T and the kind of rows: in a catalogue's entry, and in an entry for the writer, T + 16 stands for T where the rows have Δ. Customers
 // call nothing here.
+#![tactic(auto)]
+
 ghost use Rattle.std.specs.Prelude.{◌≡◌, ◌≤◌};
 ghost use Rattle.definitions.specs.Ranking.{largest_top};
 ghost use Rattle.definitions.specs.Catalogue.{marked_top, gaps_of, top_of};

@@ -1,4 +1,6 @@
 // The t-value of a pair, by the least weight of digit rows that are not free.
+#![tactic(auto)]
+
 ghost use Rattle.std.specs.Prelude.{◌≡◌};
 ghost use Rattle.definitions.specs.Calls.{uniformity};
 

@@ -1,5 +1,7 @@
 // The line below a page, put at a place of a buffer: where it fits, the answer is the place behind it; where it does not, nothing is written
 // and the answer is the place itself.
+#![tactic(auto)]
+
 ghost use Rattle.std.specs.Prelude.{◌≡◌, ◌≤◌, length};
 ghost use Rattle.definitions.specs.Listing.{page_text};
 ghost use Rattle.page_line.specs.Texts.{page_line, most_ending};

@@ -14,7 +14,7 @@ use search::frame::{Frame, Tally};
 use search::{rank, walk};
 
 // How many rows were written, and whether a further row exists.
-#[derive(Drop)]
+#[derive(Clone, Copy)]
 pub struct Served {
     pub rows: usize,
     pub further: bool,

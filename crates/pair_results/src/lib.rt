@@ -1,5 +1,7 @@
 // What judging and the quotient test answer, as a struct that C takes by value: the refusal's number, 0 where there is none; `quotient_degree` of a judgement, the K
 // that refusal 5 carries, 0 for any other; and the answer's values, 0 where it has none.
+#![tactic(auto)]
+
 ghost use Rattle.std.specs.Prelude.{◌≡◌};
 ghost use Rattle.definitions.specs.Answers.{judgement_values, quotient_test_values};
 ghost use Rattle.pair_results.specs.Results.{judgement_result, quotients_result};
@@ -8,7 +10,7 @@ use definitions::{Judgement, QuotientTest};
 
 // A pair's step.
 #[repr(C)]
-#[derive(Drop)]
+#[derive(Clone, Copy)]
 pub struct FenyurkaJudgement {
     pub refusal: u32,
     pub quotient_degree: u32,
@@ -34,7 +36,7 @@ pub fn judgement(answer: Judgement) -> FenyurkaJudgement
 
 // The largest degree among a pair's partial quotients, and the degree of the common factor.
 #[repr(C)]
-#[derive(Drop)]
+#[derive(Clone, Copy)]
 pub struct FenyurkaQuotients {
     pub refusal: u32,
     pub quotient_degree: u32,

@@ -1,4 +1,6 @@
 // Points: the words of a pair's full period, written to a lent slice.
+#![tactic(auto)]
+
 ghost use Rattle.std.specs.Prelude.{◌≡◌};
 ghost use Rattle.definitions.specs.Calls.{points_answer, points_slice};
 

@@ -1,1 +1,2 @@
 // Laws of binary polynomials; no functions.
+#![tactic(auto)]

@@ -1,4 +1,6 @@
 // How bad a pair's quotients are: the largest degree among them, and the degree of the common factor. Customers call nothing here.
+#![tactic(auto)]
+
 ghost use Rattle.std.specs.Prelude.{◌≡◌, ◌-◌, ◌≤◌, ◌<◌};
 ghost use Rattle.definitions.specs.Polynomial.{degree, rem};
 ghost use Rattle.definitions.specs.Generator.{quotient_degree, common_degree};
@@ -6,7 +8,7 @@ ghost use Rattle.definitions.specs.Generator.{quotient_degree, common_degree};
 use polynomial::digits;
 
 // K, the largest degree among the partial quotients of q/p, and the degree of the common factor of p and q.
-#[derive(Drop)]
+#[derive(Clone, Copy)]
 pub struct Degrees {
     pub quotient: u32,
     pub common: u32,

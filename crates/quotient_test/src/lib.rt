@@ -1,4 +1,6 @@
 // The quotient test: how bad the partial quotients of a pair are, whatever judging says of it.
+#![tactic(auto)]
+
 ghost use Rattle.std.specs.Prelude.{◌≡◌};
 ghost use Rattle.definitions.specs.Calls.{quotient_test};
 

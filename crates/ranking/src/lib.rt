@@ -1,4 +1,6 @@
 // Pages of the ranked list.
+#![tactic(auto)]
+
 ghost use Rattle.std.specs.Prelude.{◌≡◌};
 ghost use Rattle.definitions.specs.Calls.{page_request, page_answer, page_slice};
 

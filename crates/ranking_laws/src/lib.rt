@@ -1,1 +1,2 @@
 // Laws of the ranked list: the tree's accepted pairs are all accepted pairs, and pages walked through are the list; no functions.
+#![tactic(auto)]

@@ -1,5 +1,7 @@
 // What the program `recount` prints for a line: the t-value of a pair by both engines, or a refusal. The text is put at a place of a buffer: where it
 // fits, the answer is the place behind it; where it does not, nothing is written and the answer is the place itself.
+#![tactic(auto)]
+
 ghost use Rattle.std.specs.Prelude.{◌≡◌};
 ghost use Rattle.definitions.specs.Recount.{pair_text, recount};
 ghost use Rattle.slice_laws.specs.Place.{placed, behind};

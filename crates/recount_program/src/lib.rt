@@ -1,5 +1,7 @@
 // The program `recount` whole, for the programs that run it: a line is read, and what belongs to it printed. What that is is proved of `recount_line`;
 // that it is written no contract can say.
+#![tactic(auto)]
+
 use libc::STDOUT_FILENO;
 use recount_line::TEXT_ROOM;
 

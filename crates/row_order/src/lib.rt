@@ -1,4 +1,6 @@
 // Comparing rows by their keys: by their t-values, then by p, then by q. What the search of pages ranks rows by. Customers call nothing here.
+#![tactic(auto)]
+
 ghost use Rattle.std.specs.Prelude.{◌≡◌, ◌+◌, ◌<◌, ◌≤◌, length, take, drop};
 ghost use Rattle.definitions.specs.Pages.{before, after, above};
 ghost use Rattle.definitions.specs.Ranking.{ranks_from, row_key};

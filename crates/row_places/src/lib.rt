@@ -1,4 +1,6 @@
 // The places in a row of a list, and how long it is. Customers call nothing here.
+#![tactic(auto)]
+
 ghost use Rattle.std.specs.Prelude.{◌≡◌};
 ghost use Rattle.definitions.specs.Ranking.{row_width};
 ghost use Rattle.row_places.specs.Places.{values_end};

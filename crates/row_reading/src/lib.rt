@@ -1,4 +1,6 @@
 // One row of a body, read from its bytes. Customers call nothing here.
+#![tactic(auto)]
+
 ghost use Rattle.std.specs.Prelude.{◌≡◌, ◌+◌, ◌≤◌, length};
 ghost use Rattle.definitions.specs.Ranking.{least_top};
 ghost use Rattle.definitions.specs.Catalogue.{numbers_size, values_size, row_size, t_at, delta_at, row_at};

@@ -1,4 +1,6 @@
 // A row of a degree's body as a struct that C takes by value.
+#![tactic(auto)]
+
 ghost use Rattle.std.specs.Prelude.{◌≡◌, cond, eqb};
 ghost use Rattle.definitions.specs.Answers.{next_row_values};
 ghost use Rattle.definitions.specs.declared.NextRow.TheVariants.{Found};
@@ -8,7 +10,7 @@ use definitions::{NextRow, Row};
 
 // A row of a body: how many numbers it has, 0 at the end; the place behind it; its numbers as a page has them, and 0 behind them.
 #[repr(C)]
-#[derive(Drop)]
+#[derive(Clone, Copy)]
 pub struct FenyurkaRow {
     pub count: usize,
     pub next: usize,

@@ -1,4 +1,6 @@
 // The slot of a row among the rows at the front of a lent slice, which stand in order. Customers call nothing here.
+#![tactic(auto)]
+
 ghost use Rattle.std.specs.Prelude.{◌≡◌, ◌*◌, ◌<◌, ◌≤◌, length, take};
 ghost use Rattle.definitions.specs.Ranking.{ranks_from, row_key};
 ghost use Rattle.page_laws.specs.Slot.{slot, Ordered};

@@ -1,4 +1,6 @@
 // The steps of rows that a search has kept, written when it is over. Customers call nothing here.
+#![tactic(auto)]
+
 ghost use Rattle.std.specs.Prelude.{◌≡◌, ◌*◌, ◌≤◌, ◌<◌, length};
 ghost use Rattle.number_laws.specs.Bounds.{LawfulDegree};
 ghost use Rattle.page_laws.specs.Rows.{rows_of};

@@ -2,7 +2,7 @@
 use definitions::Selection;
 
 // The list that is searched, the rows that fit, and whether the page begins after a row or at the start.
-#[derive(Drop)]
+#[derive(Clone, Copy)]
 pub struct Frame {
     pub list: Selection,
     pub capacity: usize,
@@ -10,7 +10,7 @@ pub struct Frame {
 }
 
 // How many rows are kept at the front of the slice, and how many were met above the cut.
-#[derive(Drop)]
+#[derive(Clone, Copy)]
 pub struct Tally {
     pub kept: usize,
     pub count: usize,

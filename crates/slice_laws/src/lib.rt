@@ -1,1 +1,2 @@
 // Laws of writing over a slice, over the definitions. No functions.
+#![tactic(auto)]

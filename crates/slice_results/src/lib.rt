@@ -1,5 +1,7 @@
 // What is answered beside a lent slice, as a struct that C takes by value: the refusal's number, 0 where there is none; `quotient_degree`, the K that
 // refusal 5 carries, 0 for any other; and the answer's values, 0 where it has none.
+#![tactic(auto)]
+
 ghost use Rattle.std.specs.Prelude.{◌≡◌};
 ghost use Rattle.definitions.specs.Number.{bit};
 ghost use Rattle.definitions.specs.Answers.{page_values, points_values};
@@ -9,7 +11,7 @@ use definitions::{PageAnswer, PointsAnswer};
 
 // A page: whether a further row exists, and how many rows were written.
 #[repr(C)]
-#[derive(Drop)]
+#[derive(Clone, Copy)]
 pub struct FenyurkaPage {
     pub refusal: u32,
     pub quotient_degree: u32,
@@ -45,7 +47,7 @@ pub fn page(answer: PageAnswer) -> FenyurkaPage
 
 // How many words were written.
 #[repr(C)]
-#[derive(Drop)]
+#[derive(Clone, Copy)]
 pub struct FenyurkaPoints {
     pub refusal: u32,
     pub quotient_degree: u32,

@@ -1,10 +1,12 @@
 // What the programs do with their streams: a line is read, and the first bytes of a buffer are written; test programs print words and numbers.
+#![tactic(auto)]
+
 ghost use Rattle.std.specs.Prelude.{◌≤◌, length};
 
 use libc::{STDIN_FILENO, STDOUT_FILENO};
 
 // A byte of the input, or its end.
-#[derive(Drop)]
+#[derive(Clone, Copy)]
 enum Input {
     Byte(u8),
     End,

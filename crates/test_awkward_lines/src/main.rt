@@ -1,6 +1,8 @@
 // Lines that a careless reader would take, or refuse, wrongly, lists of many pages and lists at several floors, with what the listing program prints
 // for each. There is the least room that is lawful, for one row and its text, so that a list comes in many parts. Lines that end with their only
 // newline stand in the file `stdin`, the others here.
+#![tactic(auto)]
+
 use limits::LONGEST_ROW;
 use listing_program::program;
 use paged_rows::STEP_ROOM;

@@ -6,6 +6,8 @@
 //     4  gap_sums.rt       sums of resolution gaps
 //     5  gap_pages.rt      pages whose rows have them, and pages without
 //     6  tables.rt         Tables 1 and 2 of document 001
+#![tactic(auto)]
+
 mod cases; // the next line of the input
 mod printing; // what two kinds of cases print of a call
 mod examples;

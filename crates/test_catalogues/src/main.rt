@@ -7,6 +7,8 @@
 //     + p q σ t(3) .. t(8)                      a row, and behind it Δ where it is not 0
 //     .                                         the end
 // In place of what is refused stands ! and the number.
+#![tactic(auto)]
+
 mod lookup; // opening, and looking a degree up
 mod print; // what is printed with
 mod walk; // a reader, from its first row to its end

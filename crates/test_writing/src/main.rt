@@ -4,6 +4,8 @@
 //     refused NUMBER
 //     BYTES                           of the file in hexadecimal, 32 to a line
 //     untouched COUNT                 how many of the other bytes of the buffer are 165
+#![tactic(auto)]
+
 ghost use Rattle.std.specs.Prelude.{◌<◌, length};
 
 use definitions::FileAnswer;

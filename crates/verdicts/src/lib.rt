@@ -1,4 +1,6 @@
 // Why a pair of a lawful degree is refused at a floor, or that it is not. Customers call nothing here.
+#![tactic(auto)]
+
 ghost use Rattle.std.specs.Prelude.{◌≡◌};
 ghost use Rattle.definitions.specs.Generator.{well_formed};
 ghost use Rattle.number_laws.specs.Bounds.{LawfulDegree};
@@ -11,7 +13,7 @@ use orders::floors;
 use polynomial::digits;
 
 // Why a pair is refused, or that it is not.
-#[derive(Drop)]
+#[derive(Clone, Copy)]
 pub enum Verdict {
     Refused(Refusal),
     Passed,

@@ -1,5 +1,7 @@
 // Writes the catalogue that a line of standard input asks for to standard output: the floor, then degree, T, degree, T, .., with T + 16 for rows with Δ.
 // A refusal goes to standard error. What is written is proved of `catalogue_line`; that it is written no contract can say.
+#![tactic(auto)]
+
 ghost use Rattle.std.specs.Prelude.{◌≤◌, length};
 ghost use Rattle.writing_laws.specs.Longest.{longest_file};
 
