@@ -25,7 +25,7 @@ use slice_results::{FenyurkaPage, FenyurkaPoints};
 
 // Which ranked list is meant: the degree, the top dimension, the floor, and whether its rows have Δ: 0 where not, any other number where so.
 #[repr(C)]
-#[derive(Drop)]
+#[derive(Clone, Copy)]
 pub struct FenyurkaList {
     pub degree: u32,
     pub top: u32,

@@ -8,7 +8,7 @@ use std::io;
 use std::io::{Read, Write};
 
 // A byte of the input, or its end.
-#[derive(Drop)]
+#[derive(Clone, Copy)]
 enum Input {
     Byte(u8),
     End,
