@@ -2,7 +2,9 @@
 // A read or a write that fails ends the program, with its error.
 #![tactic(auto)]
 
-ghost use Rattle.std.specs.Prelude.{◌≤◌, length, IfOk};
+ghost use Rattle.std.specs.Prelude.{◌≡◌, ◌≢◌, ◌≤◌, [], ◌∷◌, ◌++◌, length, take, drop, All, flat_map, decimal, IfOk, OnOk};
+ghost use Rattle.std.specs.Io.KnownBytes.{Appends};
+ghost use Rattle.streams.specs.Lines.{IsNext, TakesLine, spaced};
 
 use std::io;
 use std::io::{Read, Write};
@@ -14,17 +16,25 @@ enum Input {
     End,
 }
 
-fn next_byte<R: Read>(reader: &mut R) -> io::Result<Input> {
-    match reader.bytes().next() {
-        Some(byte) => Ok(Input::Byte(byte?)),
-        None => Ok(Input::End),
+fn next_byte<R: Read>(reader: &mut R) -> io::Result<Input>
+    ensures { IfOk result (IsNext (R.remaining reader.old) (R.remaining reader.new)) }
+{
+    let mut byte = [0u8; 1];
+    let got = reader.read(&mut byte)?;
+    if got == 1 {
+        Ok(Input::Byte(byte[0]))
+    } else {
+        Ok(Input::End)
     }
 }
 
 // Reads the line byte by byte, so that nothing behind its newline is read, and answers how many bytes came.
 // A line that fills the buffer is longer than any that can be read.
 pub fn read_line<R: Read>(reader: &mut R, input: &mut [u8]) -> io::Result<usize>
-    ensures { IfOk result (λ n. n ≤ length input.new) }
+    ensures in_bounds { IfOk result (λ n. n ≤ length input.new) }
+    ensures one_line { IfOk result (λ n. All (λ b. b ≢ 10) (take n input.new)) }
+    ensures behind { IfOk result (λ n. drop n input.new ≡ drop n input.old) }
+    ensures taken { IfOk result (λ n. TakesLine (R.remaining reader.old) (R.remaining reader.new) (take n input.new) (length input.new)) }
 {
     let mut n = 0;
     while n < input.len() {
@@ -43,18 +53,23 @@ pub fn read_line<R: Read>(reader: &mut R, input: &mut [u8]) -> io::Result<usize>
 // Writes the first n bytes to a stream.
 pub fn write_front<W: Write>(stream: &mut W, bytes: &[u8], n: usize) -> io::Result<()>
     requires { n ≤ length bytes.now }
+    ensures { OnOk result (Appends (W.contents stream.old) (W.contents stream.new) (take n bytes.now)) }
 {
     stream.write_all(&bytes[..n])
 }
 
 // Prints a word and a number behind it.
-pub fn print_number<W: Write>(stream: &mut W, word: &[u8], number: u64) -> io::Result<()> {
+pub fn print_number<W: Write>(stream: &mut W, word: &[u8], number: u64) -> io::Result<()>
+    ensures { OnOk result (Appends (W.contents stream.old) (W.contents stream.new) (word.now ++ decimal number)) }
+{
     stream.write_all(word)?;
     write!(stream, "{number}")
 }
 
 // Prints a word, and each number behind a space.
-pub fn print_numbers<W: Write>(stream: &mut W, word: &[u8], numbers: &[u32]) -> io::Result<()> {
+pub fn print_numbers<W: Write>(stream: &mut W, word: &[u8], numbers: &[u32]) -> io::Result<()>
+    ensures { OnOk result (Appends (W.contents stream.old) (W.contents stream.new) (word.now ++ flat_map spaced numbers.now)) }
+{
     stream.write_all(word)?;
     let mut i = 0;
     while i < numbers.len() {
@@ -64,6 +79,8 @@ pub fn print_numbers<W: Write>(stream: &mut W, word: &[u8], numbers: &[u32]) -> 
     Ok(())
 }
 
-pub fn new_line<W: Write>(stream: &mut W) -> io::Result<()> {
+pub fn new_line<W: Write>(stream: &mut W) -> io::Result<()>
+    ensures { OnOk result (Appends (W.contents stream.old) (W.contents stream.new) (10 ∷ [])) }
+{
     stream.write_all(b"\n")
 }
