@@ -2,7 +2,6 @@
 use mathlib.Core.Path.{◌≡◌, sym, ◌∙◌}
 use mathlib.Core.Bool.{true}
 use native.Mathlib.Omega.{arith}
-use borrow.Author.Tests.{not-true, not-false}
 use Rattle.definitions.specs.Generator.{lawful_degree, lawful_floor}
 use Rattle.number_laws.specs.Bounds.{LawfulDegree, lawful_degree_is, lead_low}
 use Rattle.verdicts.specs.Verdicts.{pair_verdict}
