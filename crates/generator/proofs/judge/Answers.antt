@@ -2,7 +2,6 @@
 -- the pair. Assumes nothing.
 use mathlib.Core.Path.{◌≡◌, sym, ◌∙◌}
 use mathlib.Core.Bool.{true}
-use borrow.Author.Tests.{not-true, not-false}
 use Rattle.definitions.specs.Generator.{lawful_degree, lawful_floor}
 use Rattle.number_laws.specs.Bounds.{lawful_degree_is}
 use Rattle.generator.specs.Judging.{judgement_wrong_degree, judgement_wrong_floor, judgement_lawful}
