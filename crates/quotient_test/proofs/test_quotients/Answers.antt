@@ -3,7 +3,6 @@
 use mathlib.Core.Path.{◌≡◌, sym, ◌∙◌}
 use mathlib.Core.Bool.{true}
 use native.Mathlib.Omega.{arith}
-use borrow.Author.Tests.{not-true, not-false}
 use Rattle.definitions.specs.Calls.{testing, quotient_test}
 use Rattle.definitions.specs.Generator.{lawful_degree, well_formed}
 use Rattle.definitions.specs.declared.QuotientTest.TheVariants.{Untested}
