@@ -79,5 +79,5 @@ rows_form-requires c =
 pub returns : goal.returns
 returns c =
     let a = c.args in
-    c.rows_are_formed.ensures
+    c.rows_form.ensures
     ∙ sym (entry_rows a.s.now (as_entry a.e) a.last a.at (degree_lawful (goal.at.returns c).Else-not-is_lawful_degree) (ascends (goal.at.returns c).Else-e-last) (top_lawful (goal.at.returns c).Else-not-is_lawful_top) (placed (goal.at.returns c).Else-offset-at) (within (goal.at.returns c).Else-body_size-s))
