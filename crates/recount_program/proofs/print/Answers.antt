@@ -1,6 +1,6 @@
 -- `recount_program::print` writes from within its buffer. Assumes nothing.
 use native.Mathlib.Omega.{arith}
-use Rattle.slice_laws.specs.Place.{put_within}
+use Rattle.slice_laws.proofs.Placing.{put_within}
 use Rattle.recount_program.proofs.print.Goals as goal
 
 pub write_front-requires : goal.write_front-requires

@@ -44,9 +44,9 @@ loop-i-preserved c =
     let here = c.loop-i in
     let a = c.args in
     let cut = row_cut here.i a.width a.rows.now in
-    let put = rw (cut, c.either.ensures) at (c.put_step-at.ensures.value, (c.put_step-at.ensures.text_after, c.put_step-at.ensures.row_len_bound_2)) in
+    let done = c.put_step-at.ensures in
     put_turn a.width a.count a.size a.done a.further a.rows.now here.invariant c.loop-i-test.true c.requires.step_room_in_bounds
-    put.1.1 put.0 put.1.0
+    (rw (cut, c.either.ensures) at done.row_len_bound_2) (rw (cut, c.either.ensures) at done.value) (rw (cut, c.either.ensures) at done.text_after)
 
 pub returns : goal.returns
 returns c =

@@ -12,7 +12,7 @@ use Rattle.definitions.specs.Gaps.{resolution, resolution_gap, sum_of_gaps}
 use Rattle.definitions.specs.Pages.{Cut, before, rest, page, more}
 use Rattle.definitions.specs.Ranking.{row, row_key}
 use Rattle.definitions.specs.Calls.{judging, counting, resolving, page_request, paging, pointing}
-use Rattle.definitions.specs.Examples.{calls}
+use Rattle.definitions.proofs.Examples.{calls}
 use Rattle.definitions.specs.Listing.{newline, line_of, words_of, is_number, decimal_from, line_numbers, letters, decimal_within, decimal}
 use Rattle.definitions.specs.Recount.{both_text, pair_text, recount_text, recount}
 use Rattle.definitions.specs.Writing.{entries_of, ranked_file, lawful_degrees, lawful_tops, ascending, entering, writing, file_buffer}
