@@ -4,7 +4,7 @@ use Rattle.std.specs.Io.KnownBytes.{Appends}
 use Rattle.definitions.specs.Number.{over}
 use Rattle.definitions.specs.Recount.{recount}
 use Rattle.slice_laws.specs.Over.{over_front}
-use Rattle.slice_laws.specs.Place.{put_front, put_within}
+use Rattle.slice_laws.proofs.Placing.{put_front, put_within}
 use Rattle.recount_line.specs.Printed.{recount_room_lem}
 use Rattle.recount_program.proofs.print.Goals as goal
 

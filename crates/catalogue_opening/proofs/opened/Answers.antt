@@ -1,0 +1,10 @@
+-- `catalogue_opening::opened` meets its contract: what it gives follows from where the body lies. Assumes nothing.
+use mathlib.Core.Path.{refl, sym, ◌∙◌}
+use Rattle.catalogue_opening.specs.Opened.{opened_found, opened_refused}
+use Rattle.catalogue_opening.proofs.opened.Goals as goal
+
+pub returns-in-At : goal.returns-in-At
+returns-in-At c = opened_found _ _ _ (sym c.locate.ensures ∙ c.in-At.is) _ refl refl refl refl refl
+
+pub returns-in-Missing : goal.returns-in-Missing
+returns-in-Missing c = opened_refused _ _ _ (sym c.locate.ensures ∙ c.in-Missing.is) _ c.refusal_number-number.ensures refl refl refl refl

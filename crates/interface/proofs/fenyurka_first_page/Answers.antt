@@ -1,0 +1,8 @@
+-- `interface::fenyurka_first_page` meets its contract: the struct is that of the page's own answer, and the slice is the page's own. Assumes nothing.
+use Rattle.interface.proofs.fenyurka_first_page.Goals as goal
+
+pub returns : goal.returns
+returns c =
+    let answer = c.page.ensures in
+    let request = c.page_request.ensures in
+    record { value = rw (c.page-2.ensures, answer.answer, request); rows_after = rw request at answer.slice }

@@ -1,0 +1,63 @@
+-- `points::points` meets its contract: each test says whether its situation applies, and behind the last one the words are written. Assumes nothing.
+use mathlib.Core.Path.{◌≡◌, sym, ◌∙◌}
+use mathlib.Core.Bool.{true}
+use native.Mathlib.Omega.{arith}
+use Rattle.definitions.specs.Generator.{lawful_degree, lawful_floor}
+use Rattle.number_laws.specs.Bounds.{LawfulDegree, lawful_degree_is, lead_low}
+use Rattle.verdicts.specs.Verdicts.{pair_verdict}
+use Rattle.verdicts.specs.Refusals.{passed_well_formed}
+use Rattle.verdicts.specs.declared.Verdict.TheVariants.{Passed}
+use Rattle.points.proofs.Answering.{wrong_degree, wrong_floor, answered_pair, answered_beyond, answered_written, words_left}
+use Rattle.points.proofs.points.Goals as goal
+use Rattle.points.proofs.points.Goals.{Else-not-is_lawful_degree, Else-not-is_lawful_floor, In-Passed}
+
+lawful : (c : Else-not-is_lawful_degree) → lawful_degree c.args.degree ≡ true
+lawful c = sym c.is_lawful_degree.ensures ∙ c.if-not-is_lawful_degree.false
+
+covered : (c : Else-not-is_lawful_degree) → LawfulDegree c.args.degree
+covered c = (lawful_degree_is _).0 (lawful c)
+
+floor_is_lawful : (c : Else-not-is_lawful_floor) → lawful_floor c.args.floor ≡ true
+floor_is_lawful c = sym c.is_lawful_floor.ensures ∙ c.if-not-is_lawful_floor.false
+
+passed : (c : In-Passed) → let a = c.args in pair_verdict a.degree a.floor a.p a.q ≡ Passed
+passed c = sym c.check_pair.ensures ∙ c.in-Passed.is
+
+pub returns-then-not-is_lawful_degree : goal.returns-then-not-is_lawful_degree
+returns-then-not-is_lawful_degree c =
+    let all = wrong_degree _ _ _ _ _ _ (sym c.is_lawful_degree.ensures ∙ c.if-not-is_lawful_degree.true) in record { answer = all.0; slice = all.1 }
+
+pub returns-then-not-is_lawful_floor : goal.returns-then-not-is_lawful_floor
+returns-then-not-is_lawful_floor c =
+    let all = wrong_floor _ _ _ _ _ _ (lawful (goal.at.returns-then-not-is_lawful_floor c).Else-not-is_lawful_degree) (sym c.is_lawful_floor.ensures ∙ c.if-not-is_lawful_floor.true) in record { answer = all.0; slice = all.1 }
+
+pub check_pair-requires : goal.check_pair-requires
+check_pair-requires c = covered (goal.at.check_pair-requires c).Else-not-is_lawful_degree
+
+pub leading_term-last-requires : goal.leading_term-last-requires
+leading_term-last-requires c = covered (goal.at.leading_term-last-requires c).Else-not-is_lawful_degree
+
+pub overflow_sub-last : goal.overflow_sub-last
+overflow_sub-last c = omega (arith, c.leading_term-last.ensures, lead_low (covered (goal.at.overflow_sub-last c).Else-not-is_lawful_degree))
+
+pub returns-then-first-last : goal.returns-then-first-last
+returns-then-first-last c =
+    let all = answered_beyond _ _ _ _ _ _ (lawful (goal.at.returns-then-first-last c).Else-not-is_lawful_degree) (floor_is_lawful (goal.at.returns-then-first-last c).Else-not-is_lawful_floor) (passed (goal.at.returns-then-first-last c).In-Passed) (omega (arith, c.leading_term-last.ensures)) in record { answer = all.0; slice = all.1 }
+
+pub write-requires : goal.write-requires
+write-requires c = record { lawful_degree = covered (goal.at.write-requires c).Else-not-is_lawful_degree; well_formed = passed_well_formed _ _ _ _ (passed (goal.at.write-requires c).In-Passed); count_in_bounds = omega (arith, c.smaller-count.ensures) }
+
+pub returns-in-Refused : goal.returns-in-Refused
+returns-in-Refused c =
+    let all = answered_pair _ _ _ _ _ _ (lawful (goal.at.returns-in-Refused c).Else-not-is_lawful_degree) (floor_is_lawful (goal.at.returns-in-Refused c).Else-not-is_lawful_floor)
+    (sym c.check_pair.ensures ∙ c.in-Refused.is) in record { answer = all.0; slice = all.1 }
+
+pub returns-else-first-last : goal.returns-else-first-last
+returns-else-first-last c =
+    let known = (goal.at.returns-else-first-last c).Else-not-is_lawful_degree in
+    let lead = c.leading_term-last.ensures in
+    let out = c.args.out.now in
+    let all = answered_written _ _ _ _ _ _ (lawful known) (floor_is_lawful (goal.at.returns-else-first-last c).Else-not-is_lawful_floor) (passed (goal.at.returns-else-first-last c).In-Passed)
+    (omega (arith, lead))
+    (c.smaller-count.ensures ∙ words_left _ _ _ out lead (omega (arith, lead, lead_low (covered known))) c.if-first-last.false)
+    c.write.ensures in record { answer = all.0; slice = all.1 }

@@ -1,0 +1,82 @@
+-- `page` refuses by the first situation of the request that applies, and else fills the slice at its position. Assumes nothing.
+use mathlib.Core.Path.{◌≡◌, sym, ◌∙◌}
+use mathlib.Core.Bool.{true}
+use native.Mathlib.Omega.{arith}
+use borrow.Author.Tests.{not-false, not-true}
+use Rattle.definitions.specs.Calls.{selection_of}
+use Rattle.definitions.specs.Generator.{lawful_degree, lawful_floor}
+use Rattle.definitions.specs.Ranking.{lawful_top}
+use Rattle.number_laws.specs.Bounds.{lawful_degree_is, lawful_top_is}
+use Rattle.verdicts.specs.declared.Verdict.TheVariants.{Passed}
+use Rattle.search.specs.Frame.{LawfulList}
+use Rattle.ranking.specs.Positions.{position_verdict}
+use Rattle.ranking.proofs.PageLaws as laws
+use Rattle.ranking.proofs.PositionLaws.{position_decides, position_passes, position_listed}
+use Rattle.ranking.proofs.page.Goals as goal
+use Rattle.ranking.proofs.page.Goals.{Else-not-is_lawful_floor, Else-not-is_lawful_top, In-Passed}
+
+degree_lawful : (c : Else-not-is_lawful_top) → lawful_degree c.args.request.degree ≡ true
+degree_lawful c = sym c.is_lawful_degree.ensures ∙ not-false _ c.if-not-is_lawful_degree.false-raw
+
+top_lawful : (c : Else-not-is_lawful_top) → lawful_top c.args.request.top ≡ true
+top_lawful c = sym c.is_lawful_top.ensures ∙ not-false _ c.if-not-is_lawful_top.false-raw
+
+floor_lawful : (c : Else-not-is_lawful_floor) → lawful_floor c.args.request.floor ≡ true
+floor_lawful c = sym c.is_lawful_floor.ensures ∙ not-false _ c.if-not-is_lawful_floor.false-raw
+
+list_lawful : (c : Else-not-is_lawful_floor) → LawfulList (selection_of c.args.request)
+list_lawful c =
+    let known = (goal.at.Else-not-is_lawful_floor c).Else-not-is_lawful_top in
+    record { degree = (lawful_degree_is _).0 (degree_lawful known); top = (lawful_top_is _).0 (top_lawful known) }
+
+passed : (c : In-Passed) → let r = c.args.request in position_verdict r.degree r.floor r.position ≡ Passed
+passed c = sym c.check_position.ensures ∙ c.in-Passed.is
+
+-- ---- the returns
+pub returns-then-not-is_lawful_degree : goal.returns-then-not-is_lawful_degree
+returns-then-not-is_lawful_degree c =
+    let g = c.args in
+    let all = laws.wrong-degree g.request g.out.now (sym c.is_lawful_degree.ensures ∙ not-true _ c.if-not-is_lawful_degree.true-raw) in record { answer = all.0; slice = all.1 }
+
+pub returns-then-not-is_lawful_top : goal.returns-then-not-is_lawful_top
+returns-then-not-is_lawful_top c =
+    let g = c.args in
+    let degree = sym c.is_lawful_degree.ensures ∙ not-false _ c.if-not-is_lawful_degree.false-raw in
+    let all = laws.wrong-top g.request g.out.now degree (sym c.is_lawful_top.ensures ∙ not-true _ c.if-not-is_lawful_top.true-raw) in record { answer = all.0; slice = all.1 }
+
+pub returns-then-not-is_lawful_floor : goal.returns-then-not-is_lawful_floor
+returns-then-not-is_lawful_floor c =
+    let known = (goal.at.returns-then-not-is_lawful_floor c).Else-not-is_lawful_top in
+    let g = c.args in
+    let all = laws.wrong-floor g.request g.out.now (degree_lawful known) (top_lawful known) (sym c.is_lawful_floor.ensures ∙ not-true _ c.if-not-is_lawful_floor.true-raw) in record { answer = all.0; slice = all.1 }
+
+pub check_position-requires : goal.check_position-requires
+check_position-requires c = (list_lawful c).degree
+
+pub returns-then-out-width_of : goal.returns-then-out-width_of
+returns-then-out-width_of c =
+    let known = (goal.at.returns-then-out-width_of c).Else-not-is_lawful_top in
+    let g = c.args in
+    let none = position_passes g.request.degree g.request.floor g.request.position (passed (goal.at.returns-then-out-width_of c).In-Passed) in
+    let all = laws.short-slice g.request g.out.now (degree_lawful known) (top_lawful known) (floor_lawful (goal.at.returns-then-out-width_of c).Else-not-is_lawful_floor) none (omega (arith, c.width_of_lem.ensures)) in record { answer = all.0; slice = all.1 }
+
+pub fill-filled-requires : goal.fill-filled-requires
+fill-filled-requires c =
+    let r = c.args.request in
+    (list_lawful (goal.at.fill-filled-requires c).Else-not-is_lawful_floor, position_listed (selection_of r) r.position (passed (goal.at.fill-filled-requires c).In-Passed), omega (arith, c.width_of_lem.ensures))
+
+pub returns-in-Refused : goal.returns-in-Refused
+returns-in-Refused c =
+    let known = (goal.at.returns-in-Refused c).Else-not-is_lawful_top in
+    let g = c.args in
+    let verdict = sym c.check_position.ensures ∙ c.in-Refused.is in
+    let all = laws.wrong-position g.request g.out.now (degree_lawful known) (top_lawful known) (floor_lawful (goal.at.returns-in-Refused c).Else-not-is_lawful_floor)
+    (position_decides g.request.degree g.request.floor g.request.position verdict) in record { answer = all.0; slice = all.1 }
+
+pub returns-else-out-width_of : goal.returns-else-out-width_of
+returns-else-out-width_of c =
+    let known = (goal.at.returns-else-out-width_of c).Else-not-is_lawful_top in
+    let g = c.args in
+    let none = position_passes g.request.degree g.request.floor g.request.position (passed (goal.at.returns-else-out-width_of c).In-Passed) in
+    let all = laws.page_filled g.request g.out.now (degree_lawful known) (top_lawful known) (floor_lawful (goal.at.returns-else-out-width_of c).Else-not-is_lawful_floor) none
+    (omega (arith, c.width_of_lem.ensures)) c.fill-filled.ensures in record { answer = all.0; slice = all.1 }
