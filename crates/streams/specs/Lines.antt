@@ -1,5 +1,5 @@
 -- What is taken from a reader whose bytes are known. Assumes nothing.
-use Rattle.std.specs.Prelude.{◌≡◌, ◌⊎◌, ℕ, List, [], ◌∷◌, ◌++◌, length, decimal, Option}
+use Rattle.std.specs.Prelude.{◌≡◌, ◌≢◌, ◌⊎◌, ℕ, List, [], ◌∷◌, ◌++◌, length, decimal, All, Option}
 use Rattle.std.specs.Io.KnownBytes.{Consumes, IsAtEnd}
 use Rattle.streams.specs.declared.Input.{Input}
 use Rattle.streams.specs.declared.Input.TheVariants.{Byte, End}
@@ -9,10 +9,11 @@ abbrev pub IsNext : Option (List ℕ) → Option (List ℕ) → Input → Type 0
 IsNext old new (Byte b) = Consumes old new (b ∷ [])
 IsNext old new End = Consumes old new [] × IsAtEnd new
 
--- A line is taken, with its newline and nothing behind it; or all that was left; or as much as there is room for.
+-- Bytes without a newline are taken: a line, with its newline and nothing behind it; or all that was left; or as much as there is room for.
 abbrev pub TakesLine : Option (List ℕ) → Option (List ℕ) → List ℕ → ℕ → Type 0
 TakesLine old new line room =
-    Consumes old new (line ++ 10 ∷ []) ⊎ Consumes old new line × IsAtEnd new ⊎ Consumes old new line × (length line ≡ room)
+    All (λ b. b ≢ 10) line
+    × (Consumes old new (line ++ 10 ∷ []) ⊎ Consumes old new line × IsAtEnd new ⊎ Consumes old new line × (length line ≡ room))
 
 -- A number behind a space.
 abbrev pub spaced : ℕ → List ℕ

@@ -2,7 +2,7 @@
 // A read or a write that fails ends the program, with its error.
 #![tactic(auto)]
 
-ghost use Rattle.std.specs.Prelude.{◌≡◌, ◌≢◌, ◌≤◌, [], ◌∷◌, ◌++◌, length, take, drop, All, flat_map, decimal, IfOk, OnOk};
+ghost use Rattle.std.specs.Prelude.{◌≡◌, ◌≤◌, [], ◌∷◌, ◌++◌, length, take, drop, flat_map, decimal, IfOk, OnOk};
 ghost use Rattle.std.specs.Io.KnownBytes.{Appends};
 ghost use Rattle.streams.specs.Lines.{IsNext, TakesLine, spaced};
 
@@ -32,7 +32,6 @@ fn next_byte<R: Read>(reader: &mut R) -> io::Result<Input>
 // A line that fills the buffer is longer than any that can be read.
 pub fn read_line<R: Read>(reader: &mut R, input: &mut [u8]) -> io::Result<usize>
     ensures in_bounds { IfOk result (λ n. n ≤ length input.new) }
-    ensures one_line { IfOk result (λ n. All (λ b. b ≢ 10) (take n input.new)) }
     ensures behind { IfOk result (λ n. drop n input.new ≡ drop n input.old) }
     ensures taken { IfOk result (λ n. TakesLine (R.remaining reader.old) (R.remaining reader.new) (take n input.new) (length input.new)) }
 {
