@@ -35,7 +35,8 @@
  * other call needs less than 20 KB (18 KB for a page, 13 KB for fenyurka_count_t_value, 5 KB for fenyurka_points, 3 KB otherwise).
  * tests/c/stack.c measures this.
  *
- * Link with the archive that `rt staticlib interface` writes (x86-64 Linux). tests/c/declarations compares this file with its source.
+ * Link with target/staticlib/libinterface.a, which ./staticlib writes (x86-64 Linux). tests/c/declarations compares this file with
+ * its source.
  */
 #ifndef FENYURKA_H
 #define FENYURKA_H

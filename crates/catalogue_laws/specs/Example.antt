@@ -2,7 +2,7 @@
 -- and a reader hands out its four rows and then the end. The same list with Δ takes 45 bytes. Assumes nothing.
 use Rattle.std.specs.Prelude.{◌≡◌, refl, Bool, true, false, List, [], ◌∷◌, map, ℕ}
 use Rattle.definitions.specs.Ranking.{ranked}
-use Rattle.definitions.specs.Examples.{no_floor, calls, list_three}
+use Rattle.definitions.proofs.Examples.{no_floor, calls, list_three}
 use Rattle.definitions.specs.Answers.{unless, next_row_values}
 use Rattle.definitions.specs.Catalogue.{number_at, number_size, count_size, entry_size, row_size, entry_at, behind_entries, row_form, entry_form, entries_form}
 use Rattle.definitions.specs.Catalogue.{catalogue_form, opening, entry_from, entry_of, looking, lookup_numbers, lookup_part, reader_top, at_row, row_at, next_row}

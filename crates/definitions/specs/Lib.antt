@@ -1,4 +1,4 @@
--- Every definition of documents 01 and 02, in the order in which they build on each other, and the starred examples.
+-- Every definition of documents 01 and 02, in the order in which they build on each other.
 pub mod Base
 pub mod Number
 pub mod Polynomial
@@ -10,9 +10,7 @@ pub mod Pages
 pub mod Ranking
 pub mod Answers
 pub mod Calls
-pub mod Examples
 pub mod Catalogue
 pub mod Listing
 pub mod Recount
 pub mod Writing
-pub mod Honest

@@ -12,7 +12,7 @@ use Rattle.definitions.specs.declared.Uniformity.{Uniformity}
 use Rattle.definitions.specs.declared.Uniformity.TheVariants.{Value}
 use Rattle.number_laws.specs.Bounds.{CountedDegree, LawfulDimension, counted_degree_is, lawful_degree_is, counted_lawful, lawful_dimension_is}
 use Rattle.slice_laws.specs.Over.{over_front}
-use Rattle.slice_laws.specs.Place.{put_front}
+use Rattle.slice_laws.proofs.Placing.{put_front}
 use Rattle.answer_laws.specs.Unless.{told_given}
 use Rattle.answer_laws.specs.Measured.{measured, given_counted, counted_uniformity}
 use Rattle.fraction_laws.specs.WellFormed.{WellFormed, well_formed_is}

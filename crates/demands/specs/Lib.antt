@@ -14,7 +14,7 @@ pub mod Gaps
 pub mod Demand3
 pub mod Floors
 pub mod Arguments
-pub mod Contracts
+pub mod FromContracts
 pub mod FromC
 pub mod Printed
 pub mod Unique

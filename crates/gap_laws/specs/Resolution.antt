@@ -11,7 +11,7 @@ use Rattle.std.proofs.Math.Nat.{div-le_self}
 use native.Mathlib.Omega.{arith}
 use Rattle.definitions.specs.Number.{bit, largest, sum}
 use Rattle.definitions.specs.Gaps.{even_cubes, resolution, resolution_gap, sum_of_gaps}
-use Rattle.definitions.specs.Honest.{gaps_at_most}
+use Rattle.definitions.proofs.Honest.{gaps_at_most}
 use Rattle.number_laws.specs.Largest.{largest_least}
 use Rattle.polynomial_laws.specs.Degree.{HasDegree, positive}
 use Rattle.net_laws.specs.Cell.{Free}

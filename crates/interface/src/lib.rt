@@ -1,4 +1,4 @@
-// The public calls for C, as include/fenyurka.h declares them: structs go in and out by value, and only slices are behind pointers.
+// The public calls as C has them, which crate `interface_c` exports: structs go in and out by value, and only slices are behind pointers.
 // A result holds the refusal's number, 0 where there is none, the K that refusal 5 carries, 0 for any other, and the values, 0 where there are none.
 // A refusal writes into no slice.
 #![tactic(auto)]
@@ -47,53 +47,42 @@ fn page_request(list: FenyurkaList, position: Position) -> PageRequest
 }
 
 // The step of a pair, at least the floor.
-#[unsafe(no_mangle)]
-pub extern "C" fn fenyurka_judge(degree: u32, floor: u32, p: u32, q: u32) -> FenyurkaJudgement
+pub fn fenyurka_judge(degree: u32, floor: u32, p: u32, q: u32) -> FenyurkaJudgement
     ensures { result ≡ judgement_result (judgement_values (judgement degree floor p q)) }
 {
     pair_results::judgement(generator::judge(degree, floor, p, q))
 }
 
 // How bad a pair's quotients are.
-#[unsafe(no_mangle)]
-pub extern "C" fn fenyurka_quotients(degree: u32, p: u32, q: u32) -> FenyurkaQuotients
+pub fn fenyurka_quotients(degree: u32, p: u32, q: u32) -> FenyurkaQuotients
     ensures { result ≡ quotients_result (quotient_test_values (quotient_test degree p q)) }
 {
     pair_results::quotients(quotient_test::test_quotients(degree, p, q))
 }
 
 // The t-value of a pair in one dimension.
-#[unsafe(no_mangle)]
-pub extern "C" fn fenyurka_t_value(degree: u32, p: u32, q: u32, dimension: u32) -> FenyurkaTValue
+pub fn fenyurka_t_value(degree: u32, p: u32, q: u32, dimension: u32) -> FenyurkaTValue
     ensures { result ≡ t_value_result (uniformity_values (uniformity degree p q dimension)) }
 {
     figure_results::t_value(net::t_value(degree, p, q, dimension))
 }
 
 // The same by the plain counter, for degrees 2 to 8.
-#[unsafe(no_mangle)]
-pub extern "C" fn fenyurka_count_t_value(
-    degree: u32,
-    p: u32,
-    q: u32,
-    dimension: u32,
-) -> FenyurkaTValue
+pub fn fenyurka_count_t_value(degree: u32, p: u32, q: u32, dimension: u32) -> FenyurkaTValue
     ensures { result ≡ t_value_result (uniformity_values (counted degree p q dimension)) }
 {
     figure_results::t_value(counter::count_t_value(degree, p, q, dimension))
 }
 
 // The sum of resolution gaps of a pair.
-#[unsafe(no_mangle)]
-pub extern "C" fn fenyurka_sum_of_gaps(degree: u32, p: u32, q: u32) -> FenyurkaGaps
+pub fn fenyurka_sum_of_gaps(degree: u32, p: u32, q: u32) -> FenyurkaGaps
     ensures { result ≡ gaps_result (gap_sum_values (gap_sum degree p q)) }
 {
     figure_results::gaps(gaps::sum_of_gaps(degree, p, q))
 }
 
 // The first rows of a ranked list: how many, and whether a further row exists.
-#[unsafe(no_mangle)]
-pub extern "C" fn fenyurka_first_page(list: FenyurkaList, rows: &mut [u32]) -> FenyurkaPage
+pub fn fenyurka_first_page(list: FenyurkaList, rows: &mut [u32]) -> FenyurkaPage
     ensures value { result ≡ page_result (page_values (page_answer (page_of list Position.Start) rows.old)) }
     ensures rows_after { rows.new ≡ page_slice (page_of list Position.Start) rows.old }
 {
@@ -101,13 +90,7 @@ pub extern "C" fn fenyurka_first_page(list: FenyurkaList, rows: &mut [u32]) -> F
 }
 
 // The same for the rows after a pair.
-#[unsafe(no_mangle)]
-pub extern "C" fn fenyurka_page_after(
-    list: FenyurkaList,
-    p: u32,
-    q: u32,
-    rows: &mut [u32],
-) -> FenyurkaPage
+pub fn fenyurka_page_after(list: FenyurkaList, p: u32, q: u32, rows: &mut [u32]) -> FenyurkaPage
     ensures value { result ≡ page_result (page_values (page_answer (page_of list (Position.After p q)) rows.old)) }
     ensures rows_after { rows.new ≡ page_slice (page_of list (Position.After p q)) rows.old }
 {
@@ -115,8 +98,7 @@ pub extern "C" fn fenyurka_page_after(
 }
 
 // Words of a pair's period, the step at least the floor, and how many were written.
-#[unsafe(no_mangle)]
-pub extern "C" fn fenyurka_points(
+pub fn fenyurka_points(
     degree: u32,
     floor: u32,
     p: u32,
@@ -131,24 +113,21 @@ pub extern "C" fn fenyurka_points(
 }
 
 // How many degrees a catalogue has.
-#[unsafe(no_mangle)]
-pub extern "C" fn fenyurka_open(file: &[u8]) -> FenyurkaCatalogue
+pub fn fenyurka_open(file: &[u8]) -> FenyurkaCatalogue
     ensures { result ≡ catalogue_result (opening_values (opening file.now)) }
 {
     catalogue_results::catalogue(catalogue::open(file))
 }
 
 // A degree's body: its top dimension, whether its rows have Δ, its row count, where it lies in the file, and how many bytes it and a row of it have.
-#[unsafe(no_mangle)]
-pub extern "C" fn fenyurka_lookup(file: &[u8], degree: u32) -> FenyurkaBody
+pub fn fenyurka_lookup(file: &[u8], degree: u32) -> FenyurkaBody
     ensures { result ≡ located file.now degree }
 {
     catalogue_results::body(catalogue_seek::locate(file, degree))
 }
 
 // The row at a place of a body and the place behind it, or the end.
-#[unsafe(no_mangle)]
-pub extern "C" fn fenyurka_row(list: FenyurkaList, body: &[u8], place: usize) -> FenyurkaRow
+pub fn fenyurka_row(list: FenyurkaList, body: &[u8], place: usize) -> FenyurkaRow
     ensures { result ≡ row_at_place list body.now place }
 {
     let degree = list.degree;
@@ -161,8 +140,7 @@ pub extern "C" fn fenyurka_row(list: FenyurkaList, body: &[u8], place: usize) ->
 
 // Writes the catalogue that entries ask for, degree, T, degree, T, .., with T + 16 for rows with Δ, each list at the floor, and says how many bytes it
 // has.
-#[unsafe(no_mangle)]
-pub extern "C" fn fenyurka_write(floor: u32, entries: &[u32], file: &mut [u8]) -> FenyurkaFile
+pub fn fenyurka_write(floor: u32, entries: &[u32], file: &mut [u8]) -> FenyurkaFile
     ensures value { result ≡ file_result (file_values (file_answer floor entries.now file.old)) }
     ensures file_after { file.new ≡ file_buffer floor entries.now file.old }
 {

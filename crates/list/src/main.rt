@@ -1,6 +1,8 @@
 // The listing program: document 01's list for a line of standard input.
 #![tactic(auto)]
 
-fn main() {
-    listing_program::program::run();
+use std::io;
+
+fn main(rt: HostRuntime) -> io::Result<()> {
+    listing_program::program::run(&mut rt.stdin(), &mut rt.stdout())
 }

@@ -10,7 +10,8 @@ use lib.Seq.{take-nil, drop-nil}
 use Rattle.definitions.specs.Number.{join, over}
 use Rattle.definitions.specs.Ranking.{row_width}
 use Rattle.definitions.specs.Listing.{page_text}
-use Rattle.slice_laws.specs.Place.{placed, behind, put_front}
+use Rattle.slice_laws.specs.Place.{placed, behind}
+use Rattle.slice_laws.proofs.Placing.{put_front}
 use Rattle.page_laws.specs.Rows.{rows_of}
 use Rattle.cursor.specs.Left.{left, passed}
 use Rattle.cursor.specs.declared.reading.Cursor.{Cursor}

@@ -1,6 +1,8 @@
 // The nightly export: the listing of one degree up to dimension 5 at floor 0, in pages of 50 rows; its input line names them all.
 #![tactic(auto)]
 
-fn main() {
-    listing_program::program::run();
+use std::io;
+
+fn main(rt: HostRuntime) -> io::Result<()> {
+    listing_program::program::run(&mut rt.stdin(), &mut rt.stdout())
 }

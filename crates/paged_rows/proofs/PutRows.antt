@@ -14,7 +14,8 @@ use borrow.Author.Tests.{lt-ltb, le-ltb}
 use Rattle.definitions.specs.Number.{over}
 use Rattle.definitions.specs.Listing.{row_text}
 use Rattle.slice_laws.specs.Over.{over_nothing, over_append, over_then, over_then_room, length_over}
-use Rattle.slice_laws.specs.Place.{placed, behind, placed_fits, behind_fits}
+use Rattle.slice_laws.specs.Place.{placed, behind}
+use Rattle.slice_laws.proofs.Placing.{placed_fits, behind_fits}
 use Rattle.page_laws.specs.Rows.{rows_of, length_rows, row_at_lem}
 use Rattle.page_line.specs.Due.{due_text}
 use Rattle.paged_rows.specs.Printed.{some, step_text, rows_text}

@@ -11,7 +11,7 @@ use borrow.Author.Tests.{ltb-true}
 use Rattle.definitions.specs.Number.{join}
 use Rattle.definitions.specs.Generator.{Pair, well_formed}
 use Rattle.definitions.specs.Pages.{Cut, start, after, rest, page, more}
-use Rattle.definitions.specs.Honest.{end_has_all}
+use Rattle.definitions.proofs.Honest.{end_has_all}
 use Rattle.definitions.specs.Ranking.{row_key}
 use Rattle.definitions.specs.declared.Position.{Position}
 use Rattle.definitions.specs.declared.Position.TheVariants.{Start, After}

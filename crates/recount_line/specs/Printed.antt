@@ -13,7 +13,7 @@ use Rattle.definitions.specs.Net.{t_value}
 use Rattle.definitions.specs.Calls.{counting, counted, uniformity}
 use Rattle.definitions.specs.Listing.{newline, letters, line_of, line_numbers, numbers_within, refused_text, unreadable}
 use Rattle.definitions.specs.Recount.{both_text, pair_text, recount_text, recount}
-use Rattle.definitions.specs.Honest.{t_value_at_most}
+use Rattle.definitions.proofs.Honest.{t_value_at_most}
 use Rattle.definitions.specs.declared.Refusal.{Refusal}
 use Rattle.definitions.specs.declared.Uniformity.{Uniformity}
 use Rattle.definitions.specs.declared.Uniformity.TheVariants.{Value, Undefined}

@@ -36,8 +36,8 @@ fn is_above(row: &[u32], f: Frame, last: &[u32]) -> bool
 // Puts a row in its slot, where it fits, and answers how many rows are kept.
 fn keep_row(out: &mut [u32], n: usize, f: Frame, row: &[u32]) -> usize
     requires { Keeping f n out.old × (width_of f ≤ length row.now) }
-    ensures { ◌≡◌ {A = Kept} (record { out = out.exit.now; n = result })
-        (inserted row_key (width_of f) f.capacity (take (width_of f) row.now) (record { out = out.entry.now; n = n })) }
+    ensures { ◌≡◌ {A = Kept} (record { out = out.new; n = result })
+        (inserted row_key (width_of f) f.capacity (take (width_of f) row.now) (record { out = out.old; n = n })) }
 {
     let width = width_of(f.list);
     let at = find_slot(out, n, width, row);

@@ -1,9 +1,13 @@
 // What the programs do with their streams: a line is read, and the first bytes of a buffer are written; test programs print words and numbers.
+// A read or a write that fails ends the program, with its error.
 #![tactic(auto)]
 
-ghost use Rattle.std.specs.Prelude.{◌≤◌, length};
+ghost use Rattle.std.specs.Prelude.{◌≡◌, ◌≤◌, [], ◌∷◌, ◌++◌, length, take, drop, flat_map, decimal, IfOk, OnOk};
+ghost use Rattle.std.specs.Io.KnownBytes.{Appends};
+ghost use Rattle.streams.specs.Lines.{IsNext, TakesLine, spaced};
 
-use libc::{STDIN_FILENO, STDOUT_FILENO};
+use std::io;
+use std::io::{Read, Write};
 
 // A byte of the input, or its end.
 #[derive(Clone, Copy)]
@@ -12,58 +16,70 @@ enum Input {
     End,
 }
 
-fn next_byte() -> Input {
+fn next_byte<R: Read>(reader: &mut R) -> io::Result<Input>
+    ensures { IfOk result (IsNext (R.remaining reader.old) (R.remaining reader.new)) }
+{
     let mut byte = [0u8; 1];
-    let got = libc::read(STDIN_FILENO, &mut byte);
+    let got = reader.read(&mut byte)?;
     if got == 1 {
-        Input::Byte(byte[0])
+        Ok(Input::Byte(byte[0]))
     } else {
-        Input::End
+        Ok(Input::End)
     }
 }
 
 // Reads the line byte by byte, so that nothing behind its newline is read, and answers how many bytes came.
 // A line that fills the buffer is longer than any that can be read.
-pub fn read_line(input: &mut [u8]) -> usize
-    ensures { result ≤ length input.new }
+pub fn read_line<R: Read>(reader: &mut R, input: &mut [u8]) -> io::Result<usize>
+    ensures in_bounds { IfOk result (λ n. n ≤ length input.new) }
+    ensures behind { IfOk result (λ n. drop n input.new ≡ drop n input.old) }
+    ensures taken { IfOk result (λ n. TakesLine (R.remaining reader.old) (R.remaining reader.new) (take n input.new) (length input.new)) }
 {
     let mut n = 0;
     while n < input.len() {
-        let Input::Byte(b) = next_byte() else {
-            return n;
+        let Input::Byte(b) = next_byte(reader)? else {
+            return Ok(n);
         };
         if b == b'\n' {
-            return n;
+            return Ok(n);
         }
         input[n] = b;
         n += 1;
     }
-    n
+    Ok(n)
 }
 
-// Writes the first n bytes to standard output or to standard error.
-pub fn write_front(stream: i32, bytes: &[u8], n: usize)
+// Writes the first n bytes to a stream.
+pub fn write_front<W: Write>(stream: &mut W, bytes: &[u8], n: usize) -> io::Result<()>
     requires { n ≤ length bytes.now }
+    ensures { OnOk result (Appends (W.contents stream.old) (W.contents stream.new) (take n bytes.now)) }
 {
-    io::write_all(stream, &bytes[..n]);
+    stream.write_all(&bytes[..n])
 }
 
 // Prints a word and a number behind it.
-pub fn print_number(word: &[u8], number: u64) {
-    io::write_all(STDOUT_FILENO, word);
-    io::print_decimal(STDOUT_FILENO, number);
+pub fn print_number<W: Write>(stream: &mut W, word: &[u8], number: u64) -> io::Result<()>
+    ensures { OnOk result (Appends (W.contents stream.old) (W.contents stream.new) (word.now ++ decimal number)) }
+{
+    stream.write_all(word)?;
+    write!(stream, "{number}")
 }
 
 // Prints a word, and each number behind a space.
-pub fn print_numbers(word: &[u8], numbers: &[u32]) {
-    io::write_all(STDOUT_FILENO, word);
+pub fn print_numbers<W: Write>(stream: &mut W, word: &[u8], numbers: &[u32]) -> io::Result<()>
+    ensures { OnOk result (Appends (W.contents stream.old) (W.contents stream.new) (word.now ++ flat_map spaced numbers.now)) }
+{
+    stream.write_all(word)?;
     let mut i = 0;
     while i < numbers.len() {
-        print_number(b" ", numbers[i] as u64);
+        print_number(stream, b" ", numbers[i] as u64)?;
         i += 1;
     }
+    Ok(())
 }
 
-pub fn new_line() {
-    io::write_all(STDOUT_FILENO, b"\n");
+pub fn new_line<W: Write>(stream: &mut W) -> io::Result<()>
+    ensures { OnOk result (Appends (W.contents stream.old) (W.contents stream.new) (10 ∷ [])) }
+{
+    stream.write_all(b"\n")
 }

@@ -6,32 +6,39 @@
 use limits::LONGEST_ROW;
 use listing_program::program;
 use paged_rows::STEP_ROOM;
+use std::io;
+use std::io::{Read, Write};
 
-fn print(line: &[u8]) {
-    program::print(line, LONGEST_ROW, STEP_ROOM);
+fn print<W: Write>(output: &mut W, line: &[u8]) -> io::Result<()> {
+    program::print(output, line, LONGEST_ROW, STEP_ROOM)
 }
 
-// The next lines of standard input.
-fn print_next(lines: u32) {
+// The next lines of the input.
+fn print_next<R: Read, W: Write>(input: &mut R, output: &mut W, lines: u32) -> io::Result<()> {
     for _ in 0..lines {
-        program::run_within(LONGEST_ROW, STEP_ROOM);
+        program::run_within(input, output, LONGEST_ROW, STEP_ROOM)?;
     }
+    Ok(())
 }
 
-fn main() {
-    print(b"");
-    print_next(1);
-    print(b" ");
-    print_next(17);
-    print(b"3 4 3 0\x0d");
-    print_next(12);
-    print(b"\n3 4 3 0\n");
-    print_next(12);
-    print(b"3 4 3 0");
-    print_next(1);
-    print(b"3 4 3 0\nxyz 9\n");
-    print(b"3 4 3 0\n3 4 4 0\n");
-    print(b"3 4 3\n0\n");
-    print(b"3 8 50 0");
-    print_next(70);
+fn answer<R: Read, W: Write>(input: &mut R, output: &mut W) -> io::Result<()> {
+    print(output, b"")?;
+    print_next(input, output, 1)?;
+    print(output, b" ")?;
+    print_next(input, output, 17)?;
+    print(output, b"3 4 3 0\x0d")?;
+    print_next(input, output, 12)?;
+    print(output, b"\n3 4 3 0\n")?;
+    print_next(input, output, 12)?;
+    print(output, b"3 4 3 0")?;
+    print_next(input, output, 1)?;
+    print(output, b"3 4 3 0\nxyz 9\n")?;
+    print(output, b"3 4 3 0\n3 4 4 0\n")?;
+    print(output, b"3 4 3\n0\n")?;
+    print(output, b"3 8 50 0")?;
+    print_next(input, output, 70)
+}
+
+fn main(rt: HostRuntime) -> io::Result<()> {
+    answer(&mut rt.stdin(), &mut rt.stdout())
 }

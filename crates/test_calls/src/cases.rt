@@ -1,5 +1,6 @@
-// The next line of standard input, and what is printed of it.
-use libc::STDOUT_FILENO;
+// The next line of the input, and what is printed of it.
+use std::io;
+use std::io::{Read, Write};
 
 // More bytes than the longest line.
 const LINE_ROOM: usize = 80;
@@ -8,24 +9,29 @@ const LINE_ROOM: usize = 80;
 pub(crate) const NOT_GIVEN: u32 = 4294967295;
 
 // Its numbers, and how many they are; those behind stay.
-pub(crate) fn next(asked: &mut [u32]) -> usize {
+pub(crate) fn next<R: Read>(reader: &mut R, asked: &mut [u32]) -> io::Result<usize> {
     let mut input = [b'\n'; LINE_ROOM];
-    streams::read_line(&mut input);
-    line::read_numbers(&input, asked)
+    streams::read_line(reader, &mut input)?;
+    Ok(line::read_numbers(&input, asked))
 }
 
 // The same of a line that is printed as it came. A line of text has no numbers.
-pub(crate) fn next_shown(asked: &mut [u32]) -> usize {
+pub(crate) fn next_shown<R: Read, W: Write>(
+    reader: &mut R,
+    output: &mut W,
+    asked: &mut [u32],
+) -> io::Result<usize> {
     let mut input = [b'\n'; LINE_ROOM];
-    let n = streams::read_line(&mut input);
-    streams::write_front(STDOUT_FILENO, &input, n);
-    line::read_numbers(&input, asked)
+    let n = streams::read_line(reader, &mut input)?;
+    streams::write_front(output, &input, n)?;
+    Ok(line::read_numbers(&input, asked))
 }
 
 // The numbers that are asked with, at the start of a line.
-pub(crate) fn show(asked: &[u32]) {
+pub(crate) fn show<W: Write>(output: &mut W, asked: &[u32]) -> io::Result<()> {
     if asked.len() > 0 {
-        streams::print_number(b"", asked[0] as u64);
-        streams::print_numbers(b"", &asked[1..]);
+        streams::print_number(output, b"", asked[0] as u64)?;
+        streams::print_numbers(output, b"", &asked[1..])?;
     }
+    Ok(())
 }

@@ -9,8 +9,9 @@
 //     7 0                     the hash
 use crate::cases;
 use definitions::{Position, Selection};
-use libc::STDOUT_FILENO;
 use slice_results::FenyurkaPage;
+use std::io;
+use std::io::{Read, Write};
 
 // The kinds of calls.
 const JUDGE: u32 = 1;
@@ -32,96 +33,113 @@ const PIECE: usize = 4096;
 const NO_FLOOR: u32 = 0;
 
 // The value behind its word, or the refusal.
-fn print_answer(word: &[u8], refusal: u32, value: usize) {
+fn print_answer<W: Write>(
+    output: &mut W,
+    word: &[u8],
+    refusal: u32,
+    value: usize,
+) -> io::Result<()> {
     if refusal > 0 {
-        streams::print_number(b" refused ", refusal as u64);
+        streams::print_number(output, b" refused ", refusal as u64)
     } else {
-        streams::print_number(word, value as u64);
+        streams::print_number(output, word, value as u64)
     }
 }
 
 // A number of the slice is printed, or goes into the hash, which tells the order too: modulo 2^32 it is taken 31 times, and the word is added.
-fn show(kind: u32, number: u32, hash: u64) -> u64 {
+fn show<W: Write>(output: &mut W, kind: u32, number: u32, hash: u64) -> io::Result<u64> {
     if kind == HASHED_WORDS {
-        return hash % 4294967296 * 31 + number as u64;
+        return Ok(hash % 4294967296 * 31 + number as u64);
     }
     if kind == WORDS {
-        streams::new_line();
-        io::print_hex(STDOUT_FILENO, number as u64, 8);
+        streams::new_line(output)?;
+        write!(output, "{number:08x}")?;
     } else {
-        streams::print_number(b" ", number as u64);
+        streams::print_number(output, b" ", number as u64)?;
     }
-    hash
+    Ok(hash)
 }
 
 // The first n numbers of the slice, and the hash afterwards.
-fn show_first(kind: u32, slice: &[u32; PIECE], n: usize, before: u64) -> u64 {
+fn show_first<W: Write>(
+    output: &mut W,
+    kind: u32,
+    slice: &[u32; PIECE],
+    n: usize,
+    before: u64,
+) -> io::Result<u64> {
     let mut hash = before;
     let mut i = 0;
     while i < n {
         if i >= PIECE {
-            return hash;
+            return Ok(hash);
         }
-        hash = show(kind, slice[i], hash);
+        hash = show(output, kind, slice[i], hash)?;
         i += 1;
     }
-    hash
+    Ok(hash)
 }
 
-fn judge(asked: &[u32; 6]) {
+fn judge<W: Write>(output: &mut W, asked: &[u32; 6]) -> io::Result<()> {
     let answer = pair_results::judgement(generator::judge(asked[2], NO_FLOOR, asked[3], asked[4]));
-    print_answer(b" step ", answer.refusal, answer.step as usize);
+    print_answer(output, b" step ", answer.refusal, answer.step as usize)
 }
 
-fn t_value(asked: &[u32; 6]) {
+fn t_value<W: Write>(output: &mut W, asked: &[u32; 6]) -> io::Result<()> {
     let answer = figure_results::t_value(net::t_value(asked[2], asked[3], asked[4], asked[5]));
-    print_answer(b" is ", answer.refusal, answer.t as usize);
+    print_answer(output, b" is ", answer.refusal, answer.t as usize)
 }
 
-fn print_page(answer: FenyurkaPage) {
-    print_answer(b" rows ", answer.refusal, answer.count);
+fn print_page<W: Write>(output: &mut W, answer: FenyurkaPage) -> io::Result<()> {
+    print_answer(output, b" rows ", answer.refusal, answer.count)?;
     if answer.refusal > 0 {
-        io::write_all(STDOUT_FILENO, b":");
+        output.write_all(b":")
     } else if answer.more > 0 {
-        io::write_all(STDOUT_FILENO, b" more:");
+        output.write_all(b" more:")
     } else {
-        io::write_all(STDOUT_FILENO, b" end:");
+        output.write_all(b" end:")
     }
 }
 
-fn page(position: Position, slice: &mut [u32]) {
+fn page<W: Write>(output: &mut W, position: Position, slice: &mut [u32]) -> io::Result<()> {
     let list = Selection {
         degree: 3,
         top: 4,
         floor: NO_FLOOR,
         gaps: false,
     };
-    print_page(slice_results::page(ranking::page(ranking::request(list, position), slice)));
+    let answer = slice_results::page(ranking::page(ranking::request(list, position), slice));
+    print_page(output, answer)
 }
 
 // The answer, and how many words were written.
-fn points(asked: &[u32; 6], slice: &mut [u32]) -> usize {
+fn points<W: Write>(output: &mut W, asked: &[u32; 6], slice: &mut [u32]) -> io::Result<usize> {
     let answer = slice_results::points(points::points(
         asked[2], NO_FLOOR, asked[3], asked[4], asked[5], slice,
     ));
-    print_answer(b" count ", answer.refusal, answer.count);
-    answer.count
+    print_answer(output, b" count ", answer.refusal, answer.count)?;
+    Ok(answer.count)
 }
 
 // The answer, and how many numbers of the slice are shown behind it.
-fn call(asked: &[u32; 6], slice: &mut [u32], hash: u64) -> usize {
+fn call<W: Write>(
+    output: &mut W,
+    asked: &[u32; 6],
+    slice: &mut [u32],
+    hash: u64,
+) -> io::Result<usize> {
     match asked[0] {
-        JUDGE => judge(asked),
-        T_VALUE => t_value(asked),
-        FIRST_PAGE => page(Position::Start, slice),
-        PAGE_AFTER => page(Position::After(asked[2], asked[3]), slice),
+        JUDGE => judge(output, asked)?,
+        T_VALUE => t_value(output, asked)?,
+        FIRST_PAGE => page(output, Position::Start, slice)?,
+        PAGE_AFTER => page(output, Position::After(asked[2], asked[3]), slice)?,
         WORDS => {
-            points(asked, slice);
+            points(output, asked, slice)?;
         }
-        HASHED_WORDS => return points(asked, slice),
-        _ => streams::print_number(b" ", hash % 4294967296),
+        HASHED_WORDS => return points(output, asked, slice),
+        _ => streams::print_number(output, b" ", hash % 4294967296)?,
     }
-    slice.len()
+    Ok(slice.len())
 }
 
 fn length_of(number: u32) -> usize {
@@ -129,22 +147,26 @@ fn length_of(number: u32) -> usize {
 }
 
 // The call with a slice of the length that is asked for, what is shown of it, and the hash afterwards.
-fn ask(asked: &[u32; 6], hash: u64) -> u64 {
+fn ask<W: Write>(output: &mut W, asked: &[u32; 6], hash: u64) -> io::Result<u64> {
     let mut slice = [9u32; PIECE];
     let length = length_of(asked[1]);
     if length > PIECE {
-        return hash;
+        return Ok(hash);
     }
-    let shown = call(asked, &mut slice[..length], hash);
-    show_first(asked[0], &slice, shown, hash)
+    let shown = call(output, asked, &mut slice[..length], hash)?;
+    show_first(output, asked[0], &slice, shown, hash)
 }
 
 // The next example, and the hash afterwards.
-pub(crate) fn answer(hash: u64) -> u64 {
+pub(crate) fn answer<R: Read, W: Write>(
+    reader: &mut R,
+    output: &mut W,
+    hash: u64,
+) -> io::Result<u64> {
     let mut asked = [cases::NOT_GIVEN; 6];
-    cases::next_shown(&mut asked);
-    cases::next(&mut asked);
-    let after = ask(&asked, hash);
-    streams::new_line();
-    after
+    cases::next_shown(reader, output, &mut asked)?;
+    cases::next(reader, &mut asked)?;
+    let after = ask(output, &asked, hash)?;
+    streams::new_line(output)?;
+    Ok(after)
 }

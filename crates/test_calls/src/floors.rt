@@ -8,29 +8,43 @@
 //     points REFUSAL K WORDS      its words from the first index on, into a slice of four: how many were written
 use crate::{cases, printing};
 use definitions::{Position, Selection};
+use std::io;
+use std::io::{Read, Write};
 
 // A row up to dimension 8 has so many numbers; two rows up to dimension 3 fit.
 const ROW_ROOM: usize = 9;
 
 const WORD_ROOM: usize = 4;
 
-fn page(word: &[u8], list: Selection, position: Position) {
+fn page<W: Write>(
+    output: &mut W,
+    word: &[u8],
+    list: Selection,
+    position: Position,
+) -> io::Result<()> {
     let mut rows = [0u32; ROW_ROOM];
     let answer = slice_results::page(ranking::page(ranking::request(list, position), &mut rows));
-    streams::print_numbers(word, &[answer.refusal, answer.quotient_degree]);
-    streams::print_number(b" ", answer.count as u64);
+    streams::print_numbers(output, word, &[answer.refusal, answer.quotient_degree])?;
+    streams::print_number(output, b" ", answer.count as u64)
 }
 
-fn points(m: u32, floor: u32, p: u32, q: u32, first: u32) {
+fn points<W: Write>(
+    output: &mut W,
+    m: u32,
+    floor: u32,
+    p: u32,
+    q: u32,
+    first: u32,
+) -> io::Result<()> {
     let mut words = [0u32; WORD_ROOM];
-    let count = printing::points(m, floor, p, q, first, &mut words);
-    streams::print_number(b" ", count as u64);
+    let count = printing::points(output, m, floor, p, q, first, &mut words)?;
+    streams::print_number(output, b" ", count as u64)
 }
 
-pub(crate) fn answer() {
+pub(crate) fn answer<R: Read, W: Write>(reader: &mut R, output: &mut W) -> io::Result<()> {
     let mut asked = [cases::NOT_GIVEN; 6];
-    cases::next(&mut asked);
-    cases::show(&asked);
+    cases::next(reader, &mut asked)?;
+    cases::show(output, &asked)?;
     let m = asked[0];
     let floor = asked[2];
     let p = asked[3];
@@ -41,11 +55,11 @@ pub(crate) fn answer() {
         floor: floor,
         gaps: false,
     };
-    printing::judge(m, floor, p, q);
-    page(b" page", list, Position::After(p, q));
-    page(b" start", list, Position::Start);
-    printing::short_page(b" short", list, Position::After(p, q));
-    printing::short_page(b" short start", list, Position::Start);
-    points(m, floor, p, q, asked[5]);
-    streams::new_line();
+    printing::judge(output, m, floor, p, q)?;
+    page(output, b" page", list, Position::After(p, q))?;
+    page(output, b" start", list, Position::Start)?;
+    printing::short_page(output, b" short", list, Position::After(p, q))?;
+    printing::short_page(output, b" short start", list, Position::Start)?;
+    points(output, m, floor, p, q, asked[5])?;
+    streams::new_line(output)
 }

@@ -5,27 +5,40 @@
 // The stored answers come from a script that counted the points in every box and every cube.
 use crate::cases;
 use definitions::{Position, Selection};
+use std::io;
+use std::io::{Read, Write};
 
 // The longest slice, and what every number of it is before a call.
 const ROOM: usize = 360;
 
 const BEFORE: u32 = 9999;
 
-fn page(list: Selection, position: Position, slice: &mut [u32]) {
+fn page<W: Write>(
+    output: &mut W,
+    list: Selection,
+    position: Position,
+    slice: &mut [u32],
+) -> io::Result<()> {
     let answer = slice_results::page(ranking::page(ranking::request(list, position), slice));
-    streams::print_numbers(b" page", &[answer.refusal, answer.quotient_degree]);
-    streams::print_number(b" ", answer.count as u64);
-    streams::print_number(b" ", answer.more as u64);
-    streams::print_numbers(b" slice", slice);
+    streams::print_numbers(output, b" page", &[answer.refusal, answer.quotient_degree])?;
+    streams::print_number(output, b" ", answer.count as u64)?;
+    streams::print_number(output, b" ", answer.more as u64)?;
+    streams::print_numbers(output, b" slice", slice)
 }
 
 // With a slice of the length that is asked for.
-fn page_within(list: Selection, position: Position, room: u32) {
+fn page_within<W: Write>(
+    output: &mut W,
+    list: Selection,
+    position: Position,
+    room: u32,
+) -> io::Result<()> {
     let mut slice = [BEFORE; ROOM];
     let length = room as usize;
     if length <= ROOM {
-        page(list, position, &mut slice[..length]);
+        page(output, list, position, &mut slice[..length])?;
     }
+    Ok(())
 }
 
 // A case of five numbers asks for the first page.
@@ -36,15 +49,20 @@ fn position_of(count: usize, p: u32, q: u32) -> Position {
     Position::Start
 }
 
-pub(crate) fn answer() {
+pub(crate) fn answer<R: Read, W: Write>(reader: &mut R, output: &mut W) -> io::Result<()> {
     let mut asked = [cases::NOT_GIVEN; 7];
-    let count = cases::next_shown(&mut asked);
+    let count = cases::next_shown(reader, output, &mut asked)?;
     let list = Selection {
         degree: asked[0],
         top: asked[1],
         floor: asked[2],
         gaps: asked[3] > 0,
     };
-    page_within(list, position_of(count, asked[5], asked[6]), asked[4]);
-    streams::new_line();
+    page_within(
+        output,
+        list,
+        position_of(count, asked[5], asked[6]),
+        asked[4],
+    )?;
+    streams::new_line(output)
 }

@@ -4,30 +4,33 @@
 // The stored figures of the pairs of Table 1 of document 001, m = 10 to 16, are those of Table 2, with the line of m = 15 as `tables.rt` reads it; all
 // others, that line as it is printed too, come from a script that counted the points in every cube.
 use crate::cases;
+use std::io;
+use std::io::{Read, Write};
 
-fn print_sum(m: u32, p: u32, q: u32) {
+fn print_sum<W: Write>(output: &mut W, m: u32, p: u32, q: u32) -> io::Result<()> {
     let answer = figure_results::gaps(gaps::sum_of_gaps(m, p, q));
     if answer.refusal > 0 {
-        streams::print_number(b" refused ", answer.refusal as u64);
+        streams::print_number(output, b" refused ", answer.refusal as u64)
     } else {
-        streams::print_number(b" ", answer.delta as u64);
+        streams::print_number(output, b" ", answer.delta as u64)
     }
 }
 
-fn print_sums(m: u32, p: u32, q: u32, count: u32) {
+fn print_sums<W: Write>(output: &mut W, m: u32, p: u32, q: u32, count: u32) -> io::Result<()> {
     for i in 0..count {
-        print_sum(m, p, std::num::wrapping_add_u32(q, i));
+        print_sum(output, m, p, q.wrapping_add(i))?;
     }
+    Ok(())
 }
 
-pub(crate) fn answer() {
+pub(crate) fn answer<R: Read, W: Write>(reader: &mut R, output: &mut W) -> io::Result<()> {
     let mut asked = [cases::NOT_GIVEN, cases::NOT_GIVEN, cases::NOT_GIVEN, 1];
-    cases::next(&mut asked);
+    cases::next(reader, &mut asked)?;
     let m = asked[0];
     let p = asked[1];
     let q = asked[2];
-    cases::show(&[m, p, q]);
-    io::write_all(libc::STDOUT_FILENO, b" gaps");
-    print_sums(m, p, q, asked[3]);
-    streams::new_line();
+    cases::show(output, &[m, p, q])?;
+    output.write_all(b" gaps")?;
+    print_sums(output, m, p, q, asked[3])?;
+    streams::new_line(output)
 }

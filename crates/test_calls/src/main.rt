@@ -17,6 +17,9 @@ mod gap_sums;
 mod quotients;
 mod tables;
 
+use std::io;
+use std::io::{Read, Write};
+
 // As many sections as the input has.
 const SECTIONS: u32 = 6;
 
@@ -31,37 +34,51 @@ const GAPS: u32 = 4;
 const GAP_PAGES: u32 = 5;
 
 // The next case, and the hash of the examples afterwards.
-fn case(kind: u32, hash: u64) -> u64 {
+fn case<R: Read, W: Write>(
+    reader: &mut R,
+    output: &mut W,
+    kind: u32,
+    hash: u64,
+) -> io::Result<u64> {
     match kind {
-        EXAMPLES => return examples::answer(hash),
-        QUOTIENTS => quotients::answer(),
-        FLOORS => floors::answer(),
-        GAPS => gap_sums::answer(),
-        GAP_PAGES => gap_pages::answer(),
-        _ => tables::answer(),
+        EXAMPLES => return examples::answer(reader, output, hash),
+        QUOTIENTS => quotients::answer(reader, output)?,
+        FLOORS => floors::answer(reader, output)?,
+        GAPS => gap_sums::answer(reader, output)?,
+        GAP_PAGES => gap_pages::answer(reader, output)?,
+        _ => tables::answer(reader, output)?,
     }
-    hash
+    Ok(hash)
 }
 
 // So many cases of a kind.
-fn answer_all(kind: u32, count: u32) {
+fn answer_all<R: Read, W: Write>(
+    reader: &mut R,
+    output: &mut W,
+    kind: u32,
+    count: u32,
+) -> io::Result<()> {
     let mut hash = 0;
     for _ in 0..count {
-        hash = case(kind, hash);
+        hash = case(reader, output, kind, hash)?;
     }
+    Ok(())
 }
 
 // The next section.
-fn section() {
+fn section<R: Read, W: Write>(reader: &mut R, output: &mut W) -> io::Result<()> {
     let mut asked = [0u32; 2];
-    cases::next_shown(&mut asked);
-    streams::new_line();
-    cases::next(&mut asked);
-    answer_all(asked[0], asked[1]);
+    cases::next_shown(reader, output, &mut asked)?;
+    streams::new_line(output)?;
+    cases::next(reader, &mut asked)?;
+    answer_all(reader, output, asked[0], asked[1])
 }
 
-fn main() {
+fn main(rt: HostRuntime) -> io::Result<()> {
+    let mut input = rt.stdin();
+    let mut output = rt.stdout();
     for _ in 0..SECTIONS {
-        section();
+        section(&mut input, &mut output)?;
     }
+    Ok(())
 }

@@ -6,34 +6,37 @@
 //     points REFUSAL K            its words from the first on, into an empty slice
 use crate::{cases, printing};
 use definitions::{Position, Selection};
+use std::io;
+use std::io::{Read, Write};
 
 // Every step is large enough.
 const NO_FLOOR: u32 = 0;
 
-fn test(m: u32, p: u32, q: u32) {
+fn test<W: Write>(output: &mut W, m: u32, p: u32, q: u32) -> io::Result<()> {
     let answer = pair_results::quotients(quotient_test::test_quotients(m, p, q));
     streams::print_numbers(
+        output,
         b" test",
         &[answer.refusal, answer.quotient_degree, answer.common_degree],
-    );
+    )
 }
 
-pub(crate) fn answer() {
+pub(crate) fn answer<R: Read, W: Write>(reader: &mut R, output: &mut W) -> io::Result<()> {
     let mut asked = [cases::NOT_GIVEN; 3];
-    cases::next(&mut asked);
+    cases::next(reader, &mut asked)?;
     let m = asked[0];
     let p = asked[1];
     let q = asked[2];
-    cases::show(&asked);
+    cases::show(output, &asked)?;
     let list = Selection {
         degree: m,
         top: 3,
         floor: NO_FLOOR,
         gaps: false,
     };
-    test(m, p, q);
-    printing::judge(m, NO_FLOOR, p, q);
-    printing::short_page(b" page", list, Position::After(p, q));
-    printing::points(m, NO_FLOOR, p, q, 0, &mut []);
-    streams::new_line();
+    test(output, m, p, q)?;
+    printing::judge(output, m, NO_FLOOR, p, q)?;
+    printing::short_page(output, b" page", list, Position::After(p, q))?;
+    printing::points(output, m, NO_FLOOR, p, q, 0, &mut [])?;
+    streams::new_line(output)
 }

@@ -6,6 +6,8 @@
 ghost use Rattle.std.specs.Prelude.{◌≤◌, length};
 
 use crate::cases;
+use std::io;
+use std::io::{Read, Write};
 
 // Every step is large enough.
 const NO_FLOOR: u32 = 0;
@@ -26,35 +28,37 @@ fn polynomial(numbers: &[u32], from: usize, to: usize) -> u32
     value
 }
 
-fn print_t_values(m: u32, p: u32, q: u32) {
+fn print_t_values<W: Write>(output: &mut W, m: u32, p: u32, q: u32) -> io::Result<()> {
     let mut s = 3;
     while s <= 8 {
         let answer = figure_results::t_value(net::t_value(m, p, q, s));
-        streams::print_number(b" ", answer.t as u64);
+        streams::print_number(output, b" ", answer.t as u64)?;
         s += 1;
     }
+    Ok(())
 }
 
-fn print_pair(m: u32, p: u32, q: u32) {
+fn print_pair<W: Write>(output: &mut W, m: u32, p: u32, q: u32) -> io::Result<()> {
     let judgement = pair_results::judgement(generator::judge(m, NO_FLOOR, p, q));
-    streams::print_numbers(b"m", &[m, p, q, judgement.refusal, judgement.step]);
-    print_t_values(m, p, q);
-    streams::new_line();
+    streams::print_numbers(output, b"m", &[m, p, q, judgement.refusal, judgement.step])?;
+    print_t_values(output, m, p, q)?;
+    streams::new_line(output)
 }
 
 // The pair of a degree and its coefficients: the first m + 1 are p's, the next m are q's.
-fn read_pair(m: u32, numbers: &[u32]) {
+fn read_pair<W: Write>(output: &mut W, m: u32, numbers: &[u32]) -> io::Result<()> {
     let behind_p = m as usize + 2;
     let behind_q = behind_p + m as usize;
     if behind_q <= numbers.len() {
         let p = polynomial(numbers, 1, behind_p);
         let q = polynomial(numbers, behind_p, behind_q);
-        print_pair(m, p, q);
+        print_pair(output, m, p, q)?;
     }
+    Ok(())
 }
 
-pub(crate) fn answer() {
+pub(crate) fn answer<R: Read, W: Write>(reader: &mut R, output: &mut W) -> io::Result<()> {
     let mut numbers = [0u32; MOST_NUMBERS];
-    cases::next(&mut numbers);
-    read_pair(numbers[0], &numbers);
+    cases::next(reader, &mut numbers)?;
+    read_pair(output, numbers[0], &numbers)
 }

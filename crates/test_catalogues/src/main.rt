@@ -13,16 +13,19 @@ mod lookup; // opening, and looking a degree up
 mod print; // what is printed with
 mod walk; // a reader, from its first row to its end
 
+use std::io;
+use std::io::{Read, Write};
+
 // As many degrees and files as the input has.
 const CATALOGUES: u32 = 163;
 
 // More bytes than the longest line.
 const LINE_ROOM: usize = 320;
 
-fn answers(file: &[u8], degree: u32) {
-    lookup::opened(file);
-    lookup::looked_up(file, degree);
-    walk::rows(file, degree);
+fn answers<W: Write>(output: &mut W, file: &[u8], degree: u32) -> io::Result<()> {
+    lookup::opened(output, file)?;
+    lookup::looked_up(output, file, degree)?;
+    walk::rows(output, file, degree)
 }
 
 // The value of a hexadecimal digit.
@@ -37,19 +40,22 @@ fn decode(line: &mut [u8]) {
     }
 }
 
-// The next two lines of standard input.
-fn answer_lines() {
+// The next two lines of the input.
+fn answer_lines<R: Read, W: Write>(input: &mut R, output: &mut W) -> io::Result<()> {
     let mut line = [b'\n'; LINE_ROOM];
-    streams::read_line(&mut line);
+    streams::read_line(input, &mut line)?;
     let mut degree = [0u32; 1];
     line::read_numbers(&line, &mut degree);
-    let n = streams::read_line(&mut line);
+    let n = streams::read_line(input, &mut line)?;
     decode(&mut line);
-    answers(&line[..n / 2], degree[0]);
+    answers(output, &line[..n / 2], degree[0])
 }
 
-fn main() {
+fn main(rt: HostRuntime) -> io::Result<()> {
+    let mut input = rt.stdin();
+    let mut output = rt.stdout();
     for _ in 0..CATALOGUES {
-        answer_lines();
+        answer_lines(&mut input, &mut output)?;
     }
+    Ok(())
 }

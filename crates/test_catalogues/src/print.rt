@@ -1,42 +1,45 @@
 // What is printed of a row and of a refusal.
-ghost use Rattle.std.specs.Prelude.{◌≡◌};
+ghost use Rattle.std.specs.Prelude.{◌≡◌, IfOk};
 ghost use Rattle.test_catalogues.specs.Shown.{is_row};
 
 use definitions::{NextRow, Refusal, Row};
+use std::io;
+use std::io::Write;
 
-pub(crate) fn refused(refusal: Refusal) {
-    streams::print_number(b" ! ", answers::refusal_number(refusal) as u64);
-    streams::new_line();
+pub(crate) fn refused<W: Write>(output: &mut W, refusal: Refusal) -> io::Result<()> {
+    streams::print_number(output, b" ! ", answers::refusal_number(refusal) as u64)?;
+    streams::new_line(output)
 }
 
 // Δ stands behind the others where it is not 0.
-fn row(r: Row) {
+fn row<W: Write>(output: &mut W, r: Row) -> io::Result<()> {
     streams::print_numbers(
+        output,
         b"+",
         &[r.p, r.q, r.step, r.t3, r.t4, r.t5, r.t6, r.t7, r.t8],
-    );
+    )?;
     if r.delta > 0 {
-        streams::print_number(b" ", r.delta as u64);
+        streams::print_number(output, b" ", r.delta as u64)?;
     }
-    streams::new_line();
+    streams::new_line(output)
 }
 
-fn end() {
-    io::write_all(libc::STDOUT_FILENO, b".\n");
+fn end<W: Write>(output: &mut W) -> io::Result<()> {
+    output.write_all(b".\n")
 }
 
 // What a reader hands out, and whether it was a row.
-pub(crate) fn shown(next: NextRow) -> bool
-    ensures { result ≡ is_row next }
+pub(crate) fn shown<W: Write>(output: &mut W, next: NextRow) -> io::Result<bool>
+    ensures { IfOk result (λ is_row. is_row ≡ is_row next) }
 {
     match next {
         NextRow::Found(r) => {
-            row(r);
-            true
+            row(output, r)?;
+            Ok(true)
         }
         NextRow::End => {
-            end();
-            false
+            end(output)?;
+            Ok(false)
         }
     }
 }

@@ -9,7 +9,8 @@
 ghost use Rattle.std.specs.Prelude.{◌<◌, length};
 
 use definitions::FileAnswer;
-use libc::STDOUT_FILENO;
+use std::io;
+use std::io::{Read, Write};
 
 // As many lines as the input has.
 const LINES: u32 = 325;
@@ -24,25 +25,25 @@ const FILE_ROOM: usize = 65536;
 
 const BEFORE: u8 = 165;
 
-fn print_byte(byte: u8) {
-    io::print_hex(STDOUT_FILENO, byte as u64, 2);
+fn print_byte<W: Write>(output: &mut W, byte: u8) -> io::Result<()> {
+    write!(output, "{byte:02x}")
 }
 
 // A word and a number, on a line.
-fn print_number(word: &[u8], n: usize) {
-    streams::print_number(word, n as u64);
-    streams::new_line();
+fn print_number<W: Write>(output: &mut W, word: &[u8], n: usize) -> io::Result<()> {
+    streams::print_number(output, word, n as u64)?;
+    streams::new_line(output)
 }
 
 // The first n bytes, and how many of the others are as they were.
-fn print_buffer(file: &[u8], n: usize) {
+fn print_buffer<W: Write>(output: &mut W, file: &[u8], n: usize) -> io::Result<()> {
     let mut untouched = 0;
     let mut k = 0;
     while k < file.len() {
         if k < n {
-            print_byte(file[k]);
+            print_byte(output, file[k])?;
             if k % 32 == 31 {
-                streams::new_line();
+                streams::new_line(output)?;
             }
         } else if file[k] == BEFORE {
             untouched += 1;
@@ -50,58 +51,66 @@ fn print_buffer(file: &[u8], n: usize) {
         k += 1;
     }
     if n % 32 > 0 {
-        streams::new_line();
+        streams::new_line(output)?;
     }
-    print_number(b"untouched ", untouched);
+    print_number(output, b"untouched ", untouched)
 }
 
-fn write(floor: u32, entries: &[u32], file: &mut [u8]) {
+fn write<W: Write>(output: &mut W, floor: u32, entries: &[u32], file: &mut [u8]) -> io::Result<()> {
     match catalogue_writer::write(floor, entries, file) {
         FileAnswer::File(length) => {
-            print_number(b"length ", length);
-            print_buffer(file, length);
+            print_number(output, b"length ", length)?;
+            print_buffer(output, file, length)
         }
         FileAnswer::NoFile(refusal) => {
-            print_number(b"refused ", answers::refusal_number(refusal) as usize);
-            print_buffer(file, 0);
+            print_number(
+                output,
+                b"refused ",
+                answers::refusal_number(refusal) as usize,
+            )?;
+            print_buffer(output, file, 0)
         }
     }
 }
 
 // The room comes first, then the floor.
-fn write_within(numbers: &[u32])
+fn write_within<W: Write>(output: &mut W, numbers: &[u32]) -> io::Result<()>
     requires { 1 < length numbers.now }
 {
     let mut file = [BEFORE; FILE_ROOM];
     let room = numbers[0] as usize;
     let floor = numbers[1];
     if room <= FILE_ROOM {
-        write(floor, &numbers[2..], &mut file[..room]);
+        write(output, floor, &numbers[2..], &mut file[..room])?;
     }
+    Ok(())
 }
 
-// The next line of standard input.
-fn write_line() {
+// The next line of the input.
+fn write_line<R: Read, W: Write>(reader: &mut R, output: &mut W) -> io::Result<()> {
     let mut input = [b'\n'; LINE_ROOM];
-    let n = streams::read_line(&mut input);
-    streams::write_front(STDOUT_FILENO, &input, n);
-    streams::new_line();
+    let n = streams::read_line(reader, &mut input)?;
+    streams::write_front(output, &input, n)?;
+    streams::new_line(output)?;
     let mut numbers = [0u32; MOST_NUMBERS];
     let count = line::read_numbers(&input, &mut numbers);
     if count > 1 {
-        write_within(&numbers[..count]);
+        write_within(output, &numbers[..count])?;
     }
+    Ok(())
 }
 
-fn main() {
+fn main(rt: HostRuntime) -> io::Result<()> {
+    let mut input = rt.stdin();
+    let mut output = rt.stdout();
     for _ in 0..LINES {
-        write_line();
+        write_line(&mut input, &mut output)?;
     }
     // Numbers of ten digits, which no line has.
-    io::write_all(STDOUT_FILENO, b"100 0 4294967295 4\n");
-    write_within(&[100, 0, 4294967295, 4]);
-    io::write_all(STDOUT_FILENO, b"100 0 3 4294967295\n");
-    write_within(&[100, 0, 3, 4294967295]);
-    io::write_all(STDOUT_FILENO, b"100 4294967295 3 4\n");
-    write_within(&[100, 4294967295, 3, 4]);
+    output.write_all(b"100 0 4294967295 4\n")?;
+    write_within(&mut output, &[100, 0, 4294967295, 4])?;
+    output.write_all(b"100 0 3 4294967295\n")?;
+    write_within(&mut output, &[100, 0, 3, 4294967295])?;
+    output.write_all(b"100 4294967295 3 4\n")?;
+    write_within(&mut output, &[100, 4294967295, 3, 4])
 }

@@ -14,7 +14,7 @@ use Rattle.definitions.specs.declared.Selection.{Selection}
 use Rattle.definitions.specs.Number.{all}
 use Rattle.definitions.specs.Generator.{lawful_degree}
 use Rattle.definitions.specs.Ranking.{lawful_top, ranked}
-use Rattle.definitions.specs.Examples.{no_floor}
+use Rattle.definitions.proofs.Examples.{no_floor}
 use Rattle.definitions.specs.Catalogue.{offset_size, entry_size, row_size, first_entry, catalogue_form, opening, lookup_numbers}
 use Rattle.definitions.specs.declared.NextRow.TheVariants.{Found, End}
 use Rattle.definitions.specs.declared.Opening.TheVariants.{Entries}

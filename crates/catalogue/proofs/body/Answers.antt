@@ -7,30 +7,29 @@ use Rattle.catalogue_seek.specs.Seek.{locating, part_of, located_part, LawfulPla
 use Rattle.catalogue_seek.specs.declared.BodyPlace.{BodyPlace}
 use Rattle.catalogue_seek.specs.declared.Located.TheVariants.{At}
 use Rattle.catalogue.proofs.body.Goals as goal
-use Rattle.catalogue.proofs.body.Goals.{In-At-2}
+use Rattle.catalogue.proofs.body.Goals.{In-At}
 
-abbrev place : In-At-2 → BodyPlace
+abbrev place : In-At → BodyPlace
 place c = c.in-At.found
 
-found_at : (c : In-At-2) → locating c.args.file.now c.args.degree ≡ At (place c)
+found_at : (c : In-At) → locating c.args.file.now c.args.degree ≡ At (place c)
 found_at c = sym c.locate.ensures ∙ c.in-At.is
 
-lawful : (c : In-At-2) → LawfulPlace c.args.file.now c.args.degree (place c)
+lawful : (c : In-At) → LawfulPlace c.args.file.now c.args.degree (place c)
 lawful c = located_lawful _ _ _ (found_at c)
 
 pub overflow_add-to : goal.overflow_add-to
-overflow_add-to c = omega (arith, (lawful (goal.at.overflow_add-to c).In-At-2).within)
+overflow_add-to c = omega (arith, (lawful (goal.at.overflow_add-to c).In-At).within)
 
 pub slice_bounds-result-end : goal.slice_bounds-result-end
-slice_bounds-result-end c = omega (arith, (lawful (goal.at.slice_bounds-result-end c).In-At-2).within)
+slice_bounds-result-end c = omega (arith, (lawful (goal.at.slice_bounds-result-end c).In-At).within)
 
 pub returns-in-At : goal.returns-in-At
 returns-in-At c =
-    let known = (goal.at.returns-in-At c).In-At-2).offset in
-    let known2 = (goal.at.returns-in-At c).In-At-2).size in
+    let found = (goal.at.returns-in-At c).In-At in
     let s = c.args.file.now in
-    let size : (place known + (place known2 - (place known ≡ (place known2 = omega arith in
-    ap (λ (n : ℕ). take n (drop (place known s)) size ∙ ap (part_of s) (sym (found_at (goal.at.returns-in-At c).In-At-2)) ∙ located_part s _
+    let size : (place found).offset + (place found).size - (place found).offset ≡ (place found).size = omega arith in
+    ap (λ (n : ℕ). take n (drop (place found).offset s)) size ∙ ap (part_of s) (sym (found_at found)) ∙ located_part s _
 
 pub returns-in-Missing : goal.returns-in-Missing
 returns-in-Missing c = ap (part_of _) (sym c.in-Missing.is ∙ c.locate.ensures) ∙ located_part _ _

@@ -3,7 +3,7 @@ use mathlib.Core.Path.{ap}
 use native.Mathlib.Omega.{arith}
 use Prim.Native.Nat.{ℕ}
 use Rattle.definitions.specs.Listing.{refused_text}
-use Rattle.slice_laws.specs.Place.{put_front}
+use Rattle.slice_laws.proofs.Placing.{put_front}
 use Rattle.list_lines.specs.Texts.{refused_short}
 use Rattle.catalogue_line.proofs.refuse.Goals as goal
 

@@ -2,7 +2,6 @@
 -- every call. Assumes nothing.
 use mathlib.Core.Path.{sym, ◌∙◌}
 use native.Mathlib.Omega.{arith}
-use borrow.Author.Tests.{not-true, not-false}
 use Rattle.number_laws.specs.Every.{every_none, every_more}
 use Rattle.counting_laws.specs.Sharing.{begun_whole, whole_is, further, begun_more, more_fails, more_holds}
 use Rattle.counter.proofs.+every_shape.Goals as goal
@@ -38,11 +37,11 @@ every_shape-requires n c =
 
 pub returns-then-not-every_shape : goal.returns-then-not-every_shape
 returns-then-not-every_shape n c =
-    let fails = sym c.every_shape.ensures ∙ not-true _ c.if-not-every_shape.true-raw in
+    let fails = sym c.every_shape.ensures ∙ c.if-not-every_shape.true in
     sym (more_fails c.requires c.loop-d.d (omega arith) fails)
 
 pub loop-d-preserved : goal.loop-d-preserved
-loop-d-preserved n c = (omega arith, every_more _ _ c.loop-d.invariant.1 (sym c.every_shape.ensures ∙ not-false _ c.if-not-every_shape.false-raw))
+loop-d-preserved n c = (omega arith, every_more _ _ c.loop-d.invariant.1 (sym c.every_shape.ensures ∙ c.if-not-every_shape.false))
 
 pub returns : goal.returns
 returns n c =

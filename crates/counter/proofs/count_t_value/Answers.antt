@@ -2,7 +2,6 @@
 -- that is counted is the definition's. Assumes nothing.
 use mathlib.Core.Path.{◌≡◌, sym, ap, ◌∙◌}
 use mathlib.Core.Bool.{true}
-use borrow.Author.Tests.{not-true, not-false}
 use Rattle.definitions.specs.Calls.{counted_degree, counted, uniformity}
 use Rattle.definitions.specs.Generator.{lawful_degree, well_formed}
 use Rattle.definitions.specs.Ranking.{lawful_dimension}
@@ -16,13 +15,13 @@ use Rattle.counter.proofs.count_t_value.Goals as goal
 use Rattle.counter.proofs.count_t_value.Goals.{Else-not-is_counted_degree, Else-not-is_lawful_dimension, Else-not-is_well_formed}
 
 degree_passed : (c : Else-not-is_counted_degree) → counted_degree c.args.degree ≡ true
-degree_passed c = sym c.is_counted_degree.ensures ∙ not-false _ c.if-not-is_counted_degree.false-raw
+degree_passed c = sym c.is_counted_degree.ensures ∙ c.if-not-is_counted_degree.false
 
 dimension_passed : (c : Else-not-is_lawful_dimension) → lawful_dimension c.args.dimension ≡ true
-dimension_passed c = sym c.is_lawful_dimension.ensures ∙ not-false _ c.if-not-is_lawful_dimension.false-raw
+dimension_passed c = sym c.is_lawful_dimension.ensures ∙ c.if-not-is_lawful_dimension.false
 
 pair_passed : (c : Else-not-is_well_formed) → well_formed c.args.degree c.args.p c.args.q ≡ true
-pair_passed c = sym c.is_well_formed.ensures ∙ not-false _ c.if-not-is_well_formed.false-raw
+pair_passed c = sym c.is_well_formed.ensures ∙ c.if-not-is_well_formed.false
 
 -- ---- as facts
 degree_counted : (c : Else-not-is_counted_degree) → CountedDegree c.args.degree
@@ -44,12 +43,12 @@ answer_is c = counted_uniformity _ _ _ _ (degree_passed c)
 
 -- ---- the answers
 pub returns-then-not-is_counted_degree : goal.returns-then-not-is_counted_degree
-returns-then-not-is_counted_degree c = sym (not_counted _ _ _ _ (sym c.is_counted_degree.ensures ∙ not-true _ c.if-not-is_counted_degree.true-raw))
+returns-then-not-is_counted_degree c = sym (not_counted _ _ _ _ (sym c.is_counted_degree.ensures ∙ c.if-not-is_counted_degree.true))
 
 pub returns-then-not-is_lawful_dimension : goal.returns-then-not-is_lawful_dimension
 returns-then-not-is_lawful_dimension c =
     let known = (goal.at.returns-then-not-is_lawful_dimension c).Else-not-is_counted_degree in
-    sym (answer_is known ∙ wrong_dimension _ _ _ _ (lawful known) (sym c.is_lawful_dimension.ensures ∙ not-true _ c.if-not-is_lawful_dimension.true-raw))
+    sym (answer_is known ∙ wrong_dimension _ _ _ _ (lawful known) (sym c.is_lawful_dimension.ensures ∙ c.if-not-is_lawful_dimension.true))
 
 pub is_well_formed-requires : goal.is_well_formed-requires
 is_well_formed-requires c = counted_lawful (degree_counted (goal.at.is_well_formed-requires c).Else-not-is_counted_degree)
@@ -57,7 +56,7 @@ is_well_formed-requires c = counted_lawful (degree_counted (goal.at.is_well_form
 pub returns-then-not-is_well_formed : goal.returns-then-not-is_well_formed
 returns-then-not-is_well_formed c =
     let known = (goal.at.returns-then-not-is_well_formed c).Else-not-is_counted_degree in
-    sym (answer_is known ∙ ill_formed _ _ _ _ (lawful known) (dimension_passed (goal.at.returns-then-not-is_well_formed c).Else-not-is_lawful_dimension) (sym c.is_well_formed.ensures ∙ not-true _ c.if-not-is_well_formed.true-raw))
+    sym (answer_is known ∙ ill_formed _ _ _ _ (lawful known) (dimension_passed (goal.at.returns-then-not-is_well_formed c).Else-not-is_lawful_dimension) (sym c.is_well_formed.ensures ∙ c.if-not-is_well_formed.true))
 
 pub build_points-points-requires : goal.build_points-points-requires
 build_points-points-requires c = record { counted_degree = degree_counted (goal.at.build_points-points-requires c).Else-not-is_counted_degree; well_formed = formed c }

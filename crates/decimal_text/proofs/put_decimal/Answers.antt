@@ -1,6 +1,6 @@
 -- `decimal_text::put_decimal` puts the digits of n at the place where they fit. Assumes nothing.
 use Rattle.definitions.specs.Listing.{decimal}
-use Rattle.slice_laws.specs.Place.{fits_room, fits_put, fits_not}
+use Rattle.slice_laws.proofs.Placing.{fits_room, fits_put, fits_not}
 use Rattle.decimal_text.proofs.put_decimal.Goals as goal
 
 pub write_decimal-requires : goal.write_decimal-requires

@@ -18,8 +18,9 @@ top_test l = lawful_top l.top
 
 abbrev pub invariant-loop-k : goal.invariant-loop-k
 invariant-loop-k l =
-    let l = entries_of l.floor l.entries in
-    ((l.degrees && all degree_test (drop l.k l)) ≡ all degree_test l) × ((l.tops && all top_test (drop l.k l)) ≡ all top_test l)
+    let listed = entries_of l.floor l.entries in
+    ((l.degrees && all degree_test (drop l.k listed)) ≡ all degree_test listed)
+    × ((l.tops && all top_test (drop l.k listed)) ≡ all top_test listed)
 
 abbrev pub decreases-loop-k : goal.decreases-loop-k
 decreases-loop-k l = l.n - l.k

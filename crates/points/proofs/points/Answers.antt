@@ -2,7 +2,6 @@
 use mathlib.Core.Path.{◌≡◌, sym, ◌∙◌}
 use mathlib.Core.Bool.{true}
 use native.Mathlib.Omega.{arith}
-use borrow.Author.Tests.{not-true, not-false}
 use Rattle.definitions.specs.Generator.{lawful_degree, lawful_floor}
 use Rattle.number_laws.specs.Bounds.{LawfulDegree, lawful_degree_is, lead_low}
 use Rattle.verdicts.specs.Verdicts.{pair_verdict}
@@ -13,24 +12,24 @@ use Rattle.points.proofs.points.Goals as goal
 use Rattle.points.proofs.points.Goals.{Else-not-is_lawful_degree, Else-not-is_lawful_floor, In-Passed}
 
 lawful : (c : Else-not-is_lawful_degree) → lawful_degree c.args.degree ≡ true
-lawful c = sym c.is_lawful_degree.ensures ∙ not-false _ c.if-not-is_lawful_degree.false-raw
+lawful c = sym c.is_lawful_degree.ensures ∙ c.if-not-is_lawful_degree.false
 
 covered : (c : Else-not-is_lawful_degree) → LawfulDegree c.args.degree
 covered c = (lawful_degree_is _).0 (lawful c)
 
 floor_is_lawful : (c : Else-not-is_lawful_floor) → lawful_floor c.args.floor ≡ true
-floor_is_lawful c = sym c.is_lawful_floor.ensures ∙ not-false _ c.if-not-is_lawful_floor.false-raw
+floor_is_lawful c = sym c.is_lawful_floor.ensures ∙ c.if-not-is_lawful_floor.false
 
 passed : (c : In-Passed) → let a = c.args in pair_verdict a.degree a.floor a.p a.q ≡ Passed
 passed c = sym c.check_pair.ensures ∙ c.in-Passed.is
 
 pub returns-then-not-is_lawful_degree : goal.returns-then-not-is_lawful_degree
 returns-then-not-is_lawful_degree c =
-    let all = wrong_degree _ _ _ _ _ _ (sym c.is_lawful_degree.ensures ∙ not-true _ c.if-not-is_lawful_degree.true-raw) in record { answer = all.0; slice = all.1 }
+    let all = wrong_degree _ _ _ _ _ _ (sym c.is_lawful_degree.ensures ∙ c.if-not-is_lawful_degree.true) in record { answer = all.0; slice = all.1 }
 
 pub returns-then-not-is_lawful_floor : goal.returns-then-not-is_lawful_floor
 returns-then-not-is_lawful_floor c =
-    let all = wrong_floor _ _ _ _ _ _ (lawful (goal.at.returns-then-not-is_lawful_floor c).Else-not-is_lawful_degree) (sym c.is_lawful_floor.ensures ∙ not-true _ c.if-not-is_lawful_floor.true-raw) in record { answer = all.0; slice = all.1 }
+    let all = wrong_floor _ _ _ _ _ _ (lawful (goal.at.returns-then-not-is_lawful_floor c).Else-not-is_lawful_degree) (sym c.is_lawful_floor.ensures ∙ c.if-not-is_lawful_floor.true) in record { answer = all.0; slice = all.1 }
 
 pub check_pair-requires : goal.check_pair-requires
 check_pair-requires c = covered (goal.at.check_pair-requires c).Else-not-is_lawful_degree

@@ -3,7 +3,6 @@
 use mathlib.Core.Path.{◌≡◌, sym, ◌∙◌}
 use mathlib.Core.Bool.{true}
 use native.Mathlib.Omega.{arith}
-use borrow.Author.Tests.{not-true, not-false}
 use Rattle.definitions.specs.Calls.{testing, quotient_test}
 use Rattle.definitions.specs.Generator.{lawful_degree, well_formed}
 use Rattle.definitions.specs.declared.QuotientTest.TheVariants.{Untested}
@@ -16,24 +15,24 @@ use Rattle.quotient_test.proofs.test_quotients.Goals.{Else-not-is_lawful_degree,
 
 -- ---- of a lawful degree
 lawful : (c : Else-not-is_lawful_degree) → lawful_degree c.args.degree ≡ true
-lawful c = sym c.is_lawful_degree.ensures ∙ not-false _ c.if-not-is_lawful_degree.false-raw
+lawful c = sym c.is_lawful_degree.ensures ∙ c.if-not-is_lawful_degree.false
 
 -- ---- of a well-formed pair
 is_well_formed : (c : Else-not-is_well_formed) → let a = c.args in well_formed a.degree a.p a.q ≡ true
-is_well_formed c = sym c.is_well_formed.ensures ∙ not-false _ c.if-not-is_well_formed.false-raw
+is_well_formed c = sym c.is_well_formed.ensures ∙ c.if-not-is_well_formed.false
 
 pub returns-then-not-is_lawful_degree : goal.returns-then-not-is_lawful_degree
 unfolding quotient_test testing
 returns-then-not-is_lawful_degree c =
     let a = c.args in
-    sym (wrong_degree Untested _ a.degree a.p a.q (sym c.is_lawful_degree.ensures ∙ not-true _ c.if-not-is_lawful_degree.true-raw))
+    sym (wrong_degree Untested _ a.degree a.p a.q (sym c.is_lawful_degree.ensures ∙ c.if-not-is_lawful_degree.true))
 
 pub is_well_formed-requires : goal.is_well_formed-requires
 is_well_formed-requires c = (lawful_degree_is _).0 (lawful c)
 
 pub returns-then-not-is_well_formed : goal.returns-then-not-is_well_formed
 unfolding quotient_test testing
-returns-then-not-is_well_formed c = sym (ill_formed Untested _ _ _ _ (lawful (goal.at.returns-then-not-is_well_formed c).Else-not-is_lawful_degree) (sym c.is_well_formed.ensures ∙ not-true _ c.if-not-is_well_formed.true-raw))
+returns-then-not-is_well_formed c = sym (ill_formed Untested _ _ _ _ (lawful (goal.at.returns-then-not-is_well_formed c).Else-not-is_lawful_degree) (sym c.is_well_formed.ensures ∙ c.if-not-is_well_formed.true))
 
 pub quotient_degrees-degrees-requires : goal.quotient_degrees-degrees-requires
 quotient_degrees-degrees-requires c =

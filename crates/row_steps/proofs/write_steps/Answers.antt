@@ -59,7 +59,7 @@ bounds-out-at-in-loop-i-2 c = omega (arith, fits (goal.at.bounds-out-at-in-loop-
 pub loop-i-preserved : goal.loop-i-preserved
 loop-i-preserved c =
     let known = (goal.at.loop-i-preserved c).At-loop-i in
-    laws.one_more (wide known) (room known) c.loop-i.invariant c.loop-i-test.true c.step_of_lem.ensures
+    laws.one_more (wide known) (room known) c.loop-i.invariant c.loop-i-test.true c.step_of.ensures
 
 pub shape_of-out : goal.shape_of-out
 shape_of-out c =

@@ -6,7 +6,7 @@ use native.Mathlib.Omega.{arith}
 use lib.ListN.{length}
 use borrow.Author.Tests.{leb-true, leb-false}
 use Rattle.definitions.specs.Listing.{row_text}
-use Rattle.slice_laws.specs.Place.{put, not_put}
+use Rattle.slice_laws.proofs.Placing.{put, not_put}
 use Rattle.row_text.proofs.put_row.Goals as goal
 use Rattle.row_text.proofs.put_row.Goals.{After-row_fits, Then-row_fits}
 

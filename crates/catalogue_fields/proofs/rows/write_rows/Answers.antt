@@ -6,13 +6,13 @@ use Rattle.catalogue_fields.proofs.rows.write_rows.Goals.{In-loop-k}
 
 turn : (c : In-loop-k) → let a = c.args in
     laws.Turn a.list.degree a.list.top a.list.gaps a.at a.count a.rows.now a.file.now c.loop-k.file c.loop-k.k
-    c.row_size-size.result c.width_of_lem.result
+    c.row_size-size.result c.width_of-width.result
 turn c =
     let a = c.args in
     let pre = c.requires in
     laws.rows_turn a.list.degree a.list.top a.list.gaps a.at a.count a.rows.now a.file.now
     pre.lawful_degree.1.low pre.lawful_rows pre.gaps_in_bounds c.loop-k.k c.loop-k-test.true c.loop-k.invariant c.row_size-size.ensures
-    c.width_of_lem.ensures pre.list_in_bounds
+    c.width_of-width.ensures pre.list_in_bounds
 
 pub loop-k-init : goal.loop-k-init
 loop-k-init c = laws.rows_start _ _ _ _ _ _ _

@@ -4,7 +4,7 @@ use Prim.Native.Nat.{◌+◌, ◌<◌}
 use native.Mathlib.Omega.{arith}
 use borrow.Author.Tests.{lt-leb}
 use lib.ListN.{length}
-use Rattle.slice_laws.specs.Place.{room_test}
+use Rattle.slice_laws.proofs.Placing.{room_test}
 use Rattle.decimal_text.proofs.write.fits.Goals as goal
 
 pub returns-then-at-out : goal.returns-then-at-out

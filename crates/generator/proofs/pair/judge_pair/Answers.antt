@@ -4,7 +4,7 @@ use mathlib.Core.Path.{◌≡◌, sym, ap, ap₂, ◌∙◌}
 use mathlib.Core.Bool.{true}
 use Prim.Native.Nat.{ℕ, ◌-◌}
 use native.Mathlib.Omega.{arith}
-use borrow.Author.Tests.{eq-eqb, ne_eqb, not-true, not-false}
+use borrow.Author.Tests.{eq-eqb, ne_eqb}
 use Rattle.definitions.specs.Number.{gcd}
 use Rattle.definitions.specs.Generator.{step, period, coprime_step}
 use Rattle.definitions.specs.declared.Judgement.TheVariants.{Accepted, Rejected}
@@ -45,7 +45,7 @@ pub returns-then-not-reaches_floor : goal.returns-then-not-reaches_floor
 unfolding pair_judgement
 returns-then-not-reaches_floor c =
     sym (unless_refused Rejected (Accepted _)
-    (step_below (fit (goal.at.returns-then-not-reaches_floor c).In-Passed) _ (coprime (goal.at.returns-then-not-reaches_floor c).Else-gcd_of-ne1) (sym c.reaches_floor.ensures ∙ not-true _ c.if-not-reaches_floor.true-raw)))
+    (step_below (fit (goal.at.returns-then-not-reaches_floor c).In-Passed) _ (coprime (goal.at.returns-then-not-reaches_floor c).Else-gcd_of-ne1) (sym c.reaches_floor.ensures ∙ c.if-not-reaches_floor.true)))
 
 pub returns-in-Refused : goal.returns-in-Refused
 unfolding pair_judgement
@@ -56,4 +56,4 @@ unfolding pair_judgement
 returns-else-not-reaches_floor c =
     ap Accepted c.find_step-step.ensures
     ∙ sym (unless_given Rejected (Accepted _)
-    (all_pass (fit (goal.at.returns-else-not-reaches_floor c).In-Passed) _ (coprime (goal.at.returns-else-not-reaches_floor c).Else-gcd_of-ne1) (sym c.reaches_floor.ensures ∙ not-false _ c.if-not-reaches_floor.false-raw)))
+    (all_pass (fit (goal.at.returns-else-not-reaches_floor c).In-Passed) _ (coprime (goal.at.returns-else-not-reaches_floor c).Else-gcd_of-ne1) (sym c.reaches_floor.ensures ∙ c.if-not-reaches_floor.false)))

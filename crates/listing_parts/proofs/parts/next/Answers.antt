@@ -3,7 +3,7 @@ use mathlib.Core.Path.{refl, sym, ap}
 use native.Mathlib.Omega.{arith}
 use Rattle.definitions.specs.Listing.{refused_text, header_text, total_text}
 use Rattle.slice_laws.specs.Over.{over_nothing}
-use Rattle.slice_laws.specs.Place.{put_front}
+use Rattle.slice_laws.proofs.Placing.{put_front}
 use Rattle.paged_rows.specs.Room.{refused_room_lem, header_room, total_room}
 use Rattle.cursor.specs.declared.reading.Cursor.{Cursor}
 use Rattle.listing_start.specs.declared.Printing.TheVariants.{Refused, Whole, Rows, Total, Nothing}

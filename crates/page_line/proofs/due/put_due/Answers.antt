@@ -4,7 +4,7 @@ use Prim.Native.Nat.{◌/◌, ◌%◌, ◌+◌, ◌<◌}
 use native.Mathlib.Nat.{mod-lt, div-le_self}
 use native.Mathlib.Omega.{arith}
 use Rattle.definitions.specs.Listing.{page_text}
-use Rattle.slice_laws.specs.Place.{put_nothing}
+use Rattle.slice_laws.proofs.Placing.{put_nothing}
 use Rattle.page_line.specs.Due.{due_text, due_within, due_at_end, due_at_full}
 use Rattle.page_line.proofs.due.put_due.Goals as goal
 use Rattle.page_line.proofs.due.put_due.Goals.{Joined-else-further, else-further-via-else-further, else-further-via-then-further+else-row-size}

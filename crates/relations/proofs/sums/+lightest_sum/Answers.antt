@@ -56,5 +56,5 @@ lightest_sum-requires t c = (omega (arith, less t (goal.at.lightest_sum-requires
 pub returns : goal.returns
 returns t c =
     let a = c.args in
-    summed_more a.mask (omega arith) (omega arith) a.starts a.x a.basis.now a.least c.lightest_sum.result
-    c.lightest_sum.result c.lightest_sum.ensures c.lightest_sum.ensures
+    summed_more a.mask (omega arith) (omega arith) a.starts a.x a.basis.now a.least c.lightest_sum-found.result
+    c.lightest_sum.result c.lightest_sum-found.ensures c.lightest_sum.ensures

@@ -26,7 +26,11 @@ pub bounds-basis-place : goal.bounds-basis-place
 bounds-basis-place c = omega (arith, c.loop-place.invariant.at, c.loop-place.invariant.lead.low)
 
 pub overflow_sub-place-in-loop-place : goal.overflow_sub-place-in-loop-place
-overflow_sub-place-in-loop-place c = (loop-again c).lead.zeros
+overflow_sub-place-in-loop-place c =
+    let a = c.args in
+    let l = c.loop-place in
+    let pre = c.requires in
+    (reducing_more a.basis.now a.mask a.row pre.apart pre.occupied l.v l.place l.invariant c.loop-place-test.true).lead.zeros
 
 pub loop-place-smaller : goal.loop-place-smaller
 loop-place-smaller c =

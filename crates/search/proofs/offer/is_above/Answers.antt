@@ -12,9 +12,9 @@ pub stands_after-requires : goal.stands_after-requires
 stands_after-requires c =
     let pre = c.requires in
     let top = pre.0.lawful.top in
-    rw c.width_of_lem.ensures (omega (arith, top.low), omega (arith, pre.0.lent), omega (arith, pre.1))
+    rw c.width_of-width.ensures (omega (arith, top.low), omega (arith, pre.0.lent), omega (arith, pre.1))
 
 pub returns : goal.returns
 returns c =
     let a = c.args in
-    laws.above_last a.f a.last.now _ (not-false _ c.if-not-f.false) (rw c.width_of_lem.ensures at c.Stands-after.ensures)
+    laws.above_last a.f a.last.now _ (not-false _ c.if-not-f.false) (rw c.width_of-width.ensures at c.stands_after.ensures)

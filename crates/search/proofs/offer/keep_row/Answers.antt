@@ -9,8 +9,8 @@ use Rattle.search.proofs.offer.keep_row.Goals.{After-width_of-width}
 abbrev keeping : (c : After-width_of-width) → Keeping c.args.f c.args.n c.args.out.now
 keeping c = c.requires.0
 
-width : (c : After-width_of-width) → c.width_of_lem.result ≡ width_of c.args.f
-width c = c.width_of_lem.ensures
+width : (c : After-width_of-width) → c.width_of-width.result ≡ width_of c.args.f
+width c = c.width_of-width.ensures
 
 pub find_slot-at-requires : goal.find_slot-at-requires
 find_slot-at-requires c =

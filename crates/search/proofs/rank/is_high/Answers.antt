@@ -13,13 +13,13 @@ use Rattle.search.proofs.rank.is_high.Goals.{After-width_of-width}
 full : (c : After-width_of-width) → c.args.t.kept ≡ c.args.f.capacity
 full c = c.if-t-f.false
 
-width : (c : After-width_of-width) → c.width_of_lem.result ≡ width_of c.args.f
-width c = c.width_of_lem.ensures
+width : (c : After-width_of-width) → c.width_of-width.result ≡ width_of c.args.f
+width c = c.width_of-width.ensures
 
-last_row_lem : (c : After-width_of-width) → (c.args.t.kept - 1) * c.width_of_lem.result + c.width_of_lem.result ≡ c.args.t.kept * c.width_of_lem.result
-last_row_lem c = laws.last_row c.args.t.kept c.width_of_lem.result (omega (arith, full c, c.requires.3))
+last_row_lem : (c : After-width_of-width) → (c.args.t.kept - 1) * c.width_of-width.result + c.width_of-width.result ≡ c.args.t.kept * c.width_of-width.result
+last_row_lem c = laws.last_row_lem c.args.t.kept c.width_of-width.result (omega (arith, full c, c.requires.3))
 
-fits : (c : After-width_of-width) → c.args.t.kept * c.width_of_lem.result ≤ length c.args.out.now
+fits : (c : After-width_of-width) → c.args.t.kept * c.width_of-width.result ≤ length c.args.out.now
 fits c = laws.rows_fit (full c) (width c) c.requires.4
 
 pub returns-then-t-f : goal.returns-then-t-f

@@ -6,7 +6,8 @@ use Rattle.search.proofs.rank.write_key.Goals as goal
 
 pub weigh-requires : goal.weigh-requires
 weigh-requires c =
-    let pre = c.requires in let rest = pre.1 in record { searching = laws.free_searching c.args.list _ pre.lawful_list refl; well_formed = rest.0; q_value = rest.1; row_len = rest.2 }
+    let pre = c.requires in
+    record { searching = laws.free_searching c.args.list _ pre.lawful_list refl; well_formed = pre.well_formed; q_value = pre.q_value; row_len = pre.row_len }
 
 pub write_delta-requires : goal.write_delta-requires
 write_delta-requires c =

@@ -8,7 +8,7 @@ use Rattle.definitions.specs.Number.{over}
 use Rattle.definitions.specs.Listing.{newline}
 use Rattle.decimal_text.specs.Decimal.{decimal_short}
 use Rattle.text.specs.Lines.{short_line, line_length, line_counted, line_end}
-use Rattle.slice_laws.specs.Place.{fits_room, fits_put, fits_not}
+use Rattle.slice_laws.proofs.Placing.{fits_room, fits_put, fits_not}
 use Rattle.text.proofs.lines.put_line.Goals as goal
 use Rattle.text.proofs.lines.put_line.Goals.{After-digits, After-write_field-place, Then-fits}
 

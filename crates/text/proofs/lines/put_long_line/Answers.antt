@@ -6,7 +6,7 @@ use native.Mathlib.Omega.{arith}
 use lib.ListN.{length}
 use Rattle.decimal_text.specs.Decimal.{decimal_short}
 use Rattle.text.specs.Lines.{long_line, long_counted}
-use Rattle.slice_laws.specs.Place.{fits_room, fits_put, fits_not}
+use Rattle.slice_laws.proofs.Placing.{fits_room, fits_put, fits_not}
 use Rattle.text.proofs.lines.put_long_line.Goals as goal
 use Rattle.text.proofs.lines.put_long_line.Goals.{After-digits, After-digits-2}
 

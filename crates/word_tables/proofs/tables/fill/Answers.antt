@@ -15,10 +15,10 @@ pub overflow_mul-y : goal.overflow_mul-y
 overflow_mul-y c = omega (arith, unit_small c.loop-n-test.true c.requires.unit)
 
 pub shape_of-next-then-y-lead : goal.shape_of-next-then-y-lead
-shape_of-next-then-y-lead c = c.loop-n.invariant.filled.next-sized ∙ sym c.requires.next_len.0
+shape_of-next-then-y-lead c = c.loop-n.invariant.filled.next_sized ∙ sym c.requires.next_len.0
 
 pub shape_of-word-then-y-lead : goal.shape_of-word-then-y-lead
-shape_of-word-then-y-lead c = c.loop-n.invariant.filled.word-sized ∙ sym c.requires.next_len.1
+shape_of-word-then-y-lead c = c.loop-n.invariant.filled.word_sized ∙ sym c.requires.next_len.1
 
 pub returns-then-y-lead : goal.returns-then-y-lead
 returns-then-y-lead c = filling_beyond c.loop-n.invariant (rw c.leading_term-lead.ensures at c.if-y-lead.true)
@@ -31,7 +31,7 @@ mul_mod-requires c =
 pub spread-requires : goal.spread-requires
 spread-requires c =
     let inv = c.loop-n.invariant in
-    omega (arith, filling_room inv c.loop-n-test.true, inv.filled.next-sized)
+    omega (arith, filling_room inv c.loop-n-test.true, inv.filled.next_sized)
 
 pub word_of-requires : goal.word_of-requires
 word_of-requires c =
@@ -42,7 +42,7 @@ word_of-requires c =
 pub spread-requires-in-loop-n : goal.spread-requires-in-loop-n
 spread-requires-in-loop-n c =
     let inv = c.loop-n.invariant in
-    omega (arith, filling_room inv c.loop-n-test.true, inv.filled.word-sized)
+    omega (arith, filling_room inv c.loop-n-test.true, inv.filled.word_sized)
 
 pub overflow_mul-n : goal.overflow_mul-n
 overflow_mul-n c = omega (arith, c.loop-n-test.true)
@@ -57,10 +57,10 @@ loop-n-preserved c =
     c.mul_mod.ensures.0 c.word_of.ensures c.spread.ensures c.spread-in-loop-n.ensures
 
 pub shape_of-next : goal.shape_of-next
-shape_of-next c = c.loop-n.invariant.filled.next-sized ∙ sym c.requires.next_len.0
+shape_of-next c = c.loop-n.invariant.filled.next_sized ∙ sym c.requires.next_len.0
 
 pub shape_of-word : goal.shape_of-word
-shape_of-word c = c.loop-n.invariant.filled.word-sized ∙ sym c.requires.next_len.1
+shape_of-word c = c.loop-n.invariant.filled.word_sized ∙ sym c.requires.next_len.1
 
 pub returns : goal.returns
 returns c = filling_done c.loop-n.invariant c.loop-n-test.false

@@ -1,17 +1,16 @@
 -- `words::writing::write_many` meets its contract. Assumes nothing.
 use mathlib.Core.Path.{refl}
-use Prim.Native.Nat.{◌*◌, ◌<◌}
+use Prim.Native.Nat.{ℕ, ◌*◌, ◌^◌, ◌<◌}
 use native.Mathlib.Omega.{arith}
-use Rattle.number_laws.specs.Bounds.{lead_high}
+use Rattle.number_laws.specs.Bounds.{LawfulDegree, lead_high}
 use Rattle.word_tables.specs.Tables.{size}
 use Rattle.word_tables.specs.Filling.{lower_unit, upper_unit, next_looked_up, next_small, word_looked_up}
 use Rattle.words.proofs.WritingLaws.{writing_start, writing_more, writing_done}
 use Rattle.words.proofs.writing.write_many.Goals as goal
-use Rattle.words.proofs.writing.write_many.Goals.{In-loop-i}
 
 -- a state has at most the digits of two halves
-state_small : (c : In-loop-i) → c.loop-i.y < size * size
-state_small c = omega (arith, c.loop-i.invariant.1, lead_high c.requires.lawful_degree)
+state_small : {m y : ℕ} → LawfulDegree m → y < 2 ^ m → y < size * size
+state_small degree l = omega (arith, l, lead_high degree)
 
 pub fill-requires : goal.fill-requires
 fill-requires c = record { lawful_degree = c.requires.lawful_degree; well_formed = c.requires.well_formed; unit = lower_unit; next_len = (refl, refl) }
@@ -27,19 +26,20 @@ loop-i-init c =
     (writing_start first-state.0, first-state.1, c.fill.ensures, c.fill-2.ensures)
 
 pub bounds-word_high-high : goal.bounds-word_high-high
-bounds-word_high-high c = omega (arith, state_small c)
+bounds-word_high-high c = omega (arith, state_small c.requires.lawful_degree c.loop-i.invariant.1)
 
 pub bounds-next_high-high : goal.bounds-next_high-high
-bounds-next_high-high c = omega (arith, state_small c)
+bounds-next_high-high c = omega (arith, state_small c.requires.lawful_degree c.loop-i.invariant.1)
 
 pub loop-i-preserved : goal.loop-i-preserved
 loop-i-preserved c =
     let pre = c.requires in
     let d = pre.well_formed.degree_p in
     let inv = c.loop-i.invariant in
-    let next = next_looked_up d _ inv.2 inv.3 _ inv.1 (state_small c) in
-    let small = next_small d _ inv.2 inv.3 _ inv.1 (state_small c) in
-    let word = word_looked_up d _ inv.2 inv.3 _ inv.1 (state_small c) in
+    let small_state = state_small pre.lawful_degree inv.1 in
+    let next = next_looked_up d _ inv.2 inv.3 _ inv.1 small_state in
+    let small = next_small d _ inv.2 inv.3 _ inv.1 small_state in
+    let word = word_looked_up d _ inv.2 inv.3 _ inv.1 small_state in
     (writing_more inv.0 pre.count_in_bounds c.loop-i-test.true word next, small, inv.2, inv.3)
 
 pub shape_of-out : goal.shape_of-out

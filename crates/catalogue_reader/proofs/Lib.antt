@@ -1,3 +1,0 @@
--- What the proofs of several functions share.
-mod ByHand
-mod Held

@@ -1,0 +1,2 @@
+-- Laws of a text that is put at a place.
+pub mod Placing
