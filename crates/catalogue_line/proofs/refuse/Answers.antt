@@ -11,5 +11,5 @@ pub returns : goal.returns
 returns c =
     let number = c.args.number in
     let line = put_front (refused_text number) c.args.text.now (omega (arith, refused_short number (omega (arith, c.fits.number)), c.requires))
-    c.Put-refused.ensures.0 c.Put-refused.ensures.1 in
+    c.put_refused.ensures.0 c.put_refused.ensures.1 in
     record { value = ap (λ (n : ℕ). record { file = 0; text = n }) line.0; text_after = line.1 }

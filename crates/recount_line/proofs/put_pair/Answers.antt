@@ -15,7 +15,7 @@ quicks c = c.t_value-quick.ensures ∙ ap result c.t_value.ensures
 pub returns-then-count-ne0 : goal.returns-then-count-ne0
 returns-then-count-ne0 c =
     let known = (goal.at.returns-then-count-ne0 c).After-t_value-count in
-    record { value = rw (pair_refused _ _ _ _ (counts known) c.if-count-ne0.true) (c.Put-refused.ensures.0); out_after = rw (pair_refused _ _ _ _ (counts known) c.if-count-ne0.true) (c.Put-refused.ensures.1) }
+    record { value = rw (pair_refused _ _ _ _ (counts known) c.if-count-ne0.true) (c.put_refused.ensures.value); out_after = rw (pair_refused _ _ _ _ (counts known) c.if-count-ne0.true) (c.put_refused.ensures.out_after) }
 
 pub returns : goal.returns
 returns c =
