@@ -1,5 +1,5 @@
 -- `recount_program::print` writes the line that was put at the front of its buffer, where any such line fits. Assumes nothing.
-use Rattle.std.proofs.Common.{◌≡◌, ℕ, List, OnOk, ◌≤◌, length, take, replicate, take_at, drop, subst, sym, ◌∙◌, refl, arith}
+use Rattle.std.proofs.Common.{◌≡◌, ℕ, List, OnOk, ◌≤◌, length, take, replicate, take_at, drop, subst, refl, arith}
 use Rattle.std.specs.Io.KnownBytes.{Appends}
 use Rattle.definitions.specs.Number.{over}
 use Rattle.definitions.specs.Recount.{recount}
