@@ -84,7 +84,9 @@ fn offer_row(p: u32, q: u32, out: &mut [u32], t: Tally, f: Frame, last: &[u32]) 
     }
 }
 
-// Offers the row of a pair of the tree, where the pair is accepted at the list's floor.
+// Offers the row of a pair of the tree, where the pair is accepted at the list's floor. It is not put into the walk, whose frame stands on the stack
+// once for each level.
+#[inline(never)]
 pub fn offer_pair(p: u32, q: u32, out: &mut [u32], t: Tally, f: Frame, last: &[u32]) -> Tally
     requires searching { Searching f last.now 1 (state_of out.old t) }
     requires well_formed { WellFormed f.list.degree p q }
