@@ -49,8 +49,8 @@ pub fn insert_row(
 ) -> usize
     requires width_in_bounds { (width ≤ length row.now) × (kept ≤ capacity) × (capacity * width ≤ length out.old) }
     requires at_value { at ≡ slot row_key (take width row.now) (rows_of width kept out.old) }
-    ensures { ◌≡◌ {A = Kept} (record { out = out.exit.now; n = result })
-        (inserted row_key width capacity (take width row.now) (record { out = out.entry.now; n = kept })) }
+    ensures { ◌≡◌ {A = Kept} (record { out = out.new; n = result })
+        (inserted row_key width capacity (take width row.now) (record { out = out.old; n = kept })) }
 {
     if kept < capacity {
         splice(out, at * width, kept * width, width, row);
