@@ -9,7 +9,7 @@
 #include <ucontext.h>
 
 /* STATED and STATED_OF_WRITE are the header's bytes. */
-enum { STACK = 1 << 20, PATTERN = 0xA5, STATED = 20480, STATED_OF_WRITE = 139264 };
+enum { STACK = 1 << 20, PATTERN = 0xA5, STATED = 24576, STATED_OF_WRITE = 139264 };
 enum { MOST_ROWS = 3000, TOP = 8, MANY = 100000 };
 
 static unsigned char stack[STACK] __attribute__((aligned(64)));

@@ -2,24 +2,35 @@
 -- numbers 1, 2, 12 and 13. Assumes nothing.
 use Rattle.std.specs.Prelude.{List, [], ◌∷◌, ℕ, ◌^◌, ◌≤◌, ◌<◌, length}
 use Rattle.std.proofs.Common.{arith}
-use Rattle.definitions.specs.Answers.{refusal_number}
+use Rattle.definitions.specs.Answers.{Situation, refusal_number}
 use Rattle.definitions.specs.Listing.{unreadable}
 use Rattle.definitions.specs.Writing.{entries_of, ranked_file, entering, file_output, file_errors}
 use Rattle.definitions.specs.declared.Selection.{Selection}
 use Rattle.definitions.specs.declared.Refusal.{Refusal}
-use Rattle.answer_laws.specs.Unless.{Decides, here, later, decides_none, Outcome, is_refused, is_given, outcome, unless_refused, unless_given}
+use Rattle.answer_laws.specs.Unless.{Decides, here, later, Outcome, is_refused, is_given, outcome, unless_refused, unless_given}
 use Rattle.list_lines.specs.Texts.{refused_room, refused_short}
 use Rattle.writing_laws.specs.RankedFile.{entering_lawful}
 use Rattle.writing_laws.specs.Longest.{longest_file, file_longest}
 use Rattle.catalogue_line.specs.Written.{tests, said, output_is, errors_are}
 
-entering_number : {r : Refusal} (floor : ℕ) (ls : List Selection) → Decides r (entering floor ls) → refusal_number r < 2 ^ 32
+-- What holds of each situation's refusal holds of the one that decides.
+abbrev Each : (Refusal → Type 0) → List Situation → Type 0
+Each P [] = Unit {0}
+Each P (s ∷ l) = P s.refusal × Each P l
+
+decides_each : (P : Refusal → Type 0) {r : Refusal} {l : List Situation} → Each P l → Decides r l → P r
+decides_each P e (here t) = e.0
+decides_each P e (later f d) = decides_each P e.1 d
+
+abbrev Short : Refusal → Type 0
+Short r = refusal_number r < 2 ^ 32
+
+entering_each : (floor : ℕ) (ls : List Selection) → Each Short (entering floor ls)
 unfolding entering
-entering_number floor ls (here t) = omega arith
-entering_number floor ls (later f (here t)) = omega arith
-entering_number floor ls (later f (later g (here t))) = omega arith
-entering_number floor ls (later f (later g (later k (here t)))) = omega arith
-entering_number floor ls (later f (later g (later k (later o d)))) = absurd (decides_none d)
+entering_each floor ls = (omega arith, (omega arith, (omega arith, (omega arith, tt))))
+
+entering_number : {r : Refusal} (floor : ℕ) (ls : List Selection) → Decides r (entering floor ls) → refusal_number r < 2 ^ 32
+entering_number floor ls d = decides_each Short (entering_each floor ls) d
 
 pub output_fits : (n : List ℕ) → length (file_output n) ≤ longest_file
 unfolding file_output

@@ -290,12 +290,22 @@ pub data AskedFromC (list : FenyurkaList) : Position → List ℕ → ℕ → �
   asked_after : (κs : _) (p q : ℕ) (rows : _) (r : _) (e : _) → c-page-after.Post κs (list, (p, (q, (rows, tt)))) r e
       → AskedFromC list (After p q) rows.now r.refusal r.count r.more (fourth e).now
 
+-- What a result holds.
+abbrev page_refusal : FenyurkaPage → ℕ
+page_refusal z = z.refusal
+
+abbrev page_count : FenyurkaPage → ℕ
+page_count z = z.count
+
+abbrev page_more : FenyurkaPage → ℕ
+page_more z = z.more
+
 module _ (list : FenyurkaList) where
   c_faithful : Faithful (list_of list) (AskedFromC list)
   c_faithful at s x n more left (asked_first κs rows r e h) =
-      record { refusal_is = rw h.0; count_is = rw h.0; more_is = rw h.0; slice_is = h.1 }
+      record { refusal_is = ap page_refusal h.0; count_is = ap page_count h.0; more_is = ap page_more h.0; slice_is = h.1 }
   c_faithful at s x n more left (asked_after κs p q rows r e h) =
-      record { refusal_is = rw h.0; count_is = rw h.0; more_is = rw h.0; slice_is = h.1 }
+      record { refusal_is = ap page_refusal h.0; count_is = ap page_count h.0; more_is = ap page_more h.0; slice_is = h.1 }
 
   -- READ FROM C.
   pub c_page_reads_list : lawful_degree list.degree ≡ true → lawful_top list.top ≡ true → lawful_floor list.floor ≡ true
@@ -310,7 +320,8 @@ pub data PointsFromC (m floor p q : ℕ) : ℕ → List ℕ → ℕ → ℕ → 
       → PointsFromC m floor p q first lent.now r.refusal r.count (sixth e).now
 
 c_points_faithful : (m floor p q : ℕ) → FaithfulPoints m floor p q (PointsFromC m floor p q)
-c_points_faithful m floor p q first s x n left (asked_points κs lent r e h) = record { refusal_is = rw h.0; count_is = rw h.0; slice_is = h.1 }
+c_points_faithful m floor p q first s x n left (asked_points κs lent r e h) =
+    record { refusal_is = ap (λ (z : FenyurkaPoints). z.refusal) h.0; count_is = ap (λ (z : FenyurkaPoints). z.count) h.0; slice_is = h.1 }
 
 -- READ FROM C.
 pub c_points_reads_period : (m floor p q σ : ℕ) → Conditions m floor p q σ → ReadsPeriod m p q (PointsFromC m floor p q)

@@ -4,6 +4,7 @@
 -- what the toolchain makes of the source's `ensures`, and `Pre` of its `requires`. Assumes nothing.
 use Rattle.std.specs.Prelude.{◌≡◌, true, false, List, [], ◌++◌, ℕ, suc, ◌+◌, ◌≤◌, length, take}
 use Rattle.std.proofs.Common.{sym, ap, ◌∙◌, append_assoc, append-nil, arith, length-append}
+use denote.Ref.{Bor, MutBor}
 use Rattle.definitions.specs.Listing.{read_line, line_values, listing}
 use Rattle.paged_rows.specs.Room.{step_room}
 use Rattle.listing_start.specs.Left.{text_left, Underway, row_room}
@@ -21,9 +22,9 @@ read_line_values κs line r e h = ap line_values h
 
 -- `Prints input n done at`: n parts were put upon the bytes of a line, the bytes `done` in all, and `at` is left to print.
 pub data Prints (input : List ℕ) : ℕ → List ℕ → Printing → Type 0 where
-  begins : {at : Printing} (κs : _) (line : _) (e : _) → line.now ≡ input → start.Post κs (line, tt) at e → Prints input 0 [] at
+  begins : {at : Printing} (κs : _) (line : Bor (List ℕ)) (e : _) → line.now ≡ input → start.Post κs (line, tt) at e → Prints input 0 [] at
   goes_on_lem : {n : ℕ} {done : List ℕ} {at : Printing} → Prints input n done at → goes_on at ≡ true
-      → (κs : _) (rows text r e : _) → row_room at ≤ length rows.now → step_room ≤ length text.now → next.Post κs (at, (rows, (text, tt))) r e
+      → (κs : _) (rows text : MutBor (List ℕ)) (r e : _) → row_room at ≤ length rows.now → step_room ≤ length text.now → next.Post κs (at, (rows, (text, tt))) r e
       → Prints input (suc n) (done ++ take r.bytes (third e).now) r.next
 
 module _ (input : List ℕ) where
@@ -35,7 +36,7 @@ module _ (input : List ℕ) where
 
   -- so that the next call may be made, whatever slices that hold a row it brings.
   pub prints_may_go_on : {n : ℕ} {done : List ℕ} {at : Printing} → Prints input n done at
-      → (κs : _) (rows text : _) → row_room at ≤ length rows.now → step_room ≤ length text.now → next.Pre κs (at, (rows, (text, tt)))
+      → (κs : _) (rows text : MutBor (List ℕ)) → row_room at ≤ length rows.now → step_room ≤ length text.now → next.Pre κs (at, (rows, (text, tt)))
   prints_may_go_on w κs rows text room bytes = (prints_underway w, (room, bytes))
 
   -- WHAT IS PRINTED AND WHAT IS LEFT ARE THE LISTING.

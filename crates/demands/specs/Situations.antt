@@ -217,6 +217,7 @@ ascend_head k n l e =
     (ltb-true k n p.0, p.1)
 
 ascend_above : (k n : ℕ) (l : List ℕ) → ascend k l ≡ true → Memᴰ n l → k < n
+ascend_above k n [] e i = elim i [ ]
 ascend_above k n (x ∷ l) e (mathlib.Core.List.Memᴰ.head d) = let a = ascend_head k x l e in omega arith
 ascend_above k n (x ∷ l) e (mathlib.Core.List.Memᴰ.tail i) = let a = ascend_head k x l e in omega (arith, ascend_above x n l a.1 i)
 
@@ -231,6 +232,7 @@ ascend_distinct k (n ∷ l) e =
     rw (unlisted k (n ∷ l) never) (ascend_distinct n l (ascend_head k n l e).1)
 
 before_lower : (j n k : ℕ) (l : List ℕ) → ascend j l ≡ true → Memᴰ n l → Memᴰ k (listed_before n l) → k < n
+before_lower j n k [] e u i = elim u [ ]
 before_lower j n k (x ∷ l) e (mathlib.Core.List.Memᴰ.head d) i = absurd (mathlib.Core.List.Memᴰ.not-nil (rw (eq-eqb x n (sym d)) at i))
 before_lower j n k (x ∷ l) e (mathlib.Core.List.Memᴰ.tail u) i =
     let a = (ascend_head j x l e).1 in
@@ -242,6 +244,7 @@ before_lower j n k (x ∷ l) e (mathlib.Core.List.Memᴰ.tail u) i =
     go (inr i) h ih = ih i
 
 lower_before : (j n k : ℕ) (l : List ℕ) → ascend j l ≡ true → Memᴰ n l → Memᴰ k l → k < n → Memᴰ k (listed_before n l)
+lower_before j n k [] e u i h = elim u [ ]
 lower_before j n k (x ∷ l) e (mathlib.Core.List.Memᴰ.head d) (mathlib.Core.List.Memᴰ.head b) h = absurd (omega arith)
 lower_before j n k (x ∷ l) e (mathlib.Core.List.Memᴰ.head d) (mathlib.Core.List.Memᴰ.tail i) h = absurd (omega (arith, ascend_above x k l (ascend_head j x l e).1 i))
 lower_before j n k (x ∷ l) e (mathlib.Core.List.Memᴰ.tail u) (mathlib.Core.List.Memᴰ.head b) h = rw (ne_eqb x n (λ d. omega arith)) (mathlib.Core.List.Memᴰ.head b)

@@ -108,45 +108,45 @@ start_unique κs a r r' e e' = same
 
 -- ---- calls with a lent slice
 
-pub page_unique : Determined page.Post (λ κs r e. r and (λ x. x.now) (second e))
+pub page_unique : Determined page.Post (λ κs r e. r and (second e).now)
 page_unique κs a r r' e e' = both
 
-pub points_unique : Determined points.Post (λ κs r e. r and (λ x. x.now) (sixth e))
+pub points_unique : Determined points.Post (λ κs r e. r and (sixth e).now)
 points_unique κs a r r' e e' = both
 
-pub write_unique : Determined write.Post (λ κs r e. r and (λ x. x.now) (third e))
+pub write_unique : Determined write.Post (λ κs r e. r and (third e).now)
 write_unique κs a r r' e e' = both
 
-pub read_numbers_unique : Determined read-numbers.Post (λ κs r e. r and (λ x. x.now) (second e))
+pub read_numbers_unique : Determined read-numbers.Post (λ κs r e. r and (second e).now)
 read_numbers_unique κs a r r' e e' = both
 
-pub put_decimal_unique : Determined put-decimal.Post (λ κs r e. r and (λ x. x.now) e.0)
+pub put_decimal_unique : Determined put-decimal.Post (λ κs r e. r and e.0.now)
 put_decimal_unique κs a r r' e e' = both
 
-pub put_header_unique : Determined put-header.Post (λ κs r e. r and (λ x. x.now) e.0)
+pub put_header_unique : Determined put-header.Post (λ κs r e. r and e.0.now)
 put_header_unique κs a r r' e e' = both
 
-pub put_row_unique : Determined put-row.Post (λ κs r e. r and (λ x. x.now) e.0)
+pub put_row_unique : Determined put-row.Post (λ κs r e. r and e.0.now)
 put_row_unique κs a r r' e e' = both
 
-pub put_page_unique : Determined put-page.Post (λ κs r e. r and (λ x. x.now) e.0)
+pub put_page_unique : Determined put-page.Post (λ κs r e. r and e.0.now)
 put_page_unique κs a r r' e e' = both
 
-pub put_total_unique : Determined put-total.Post (λ κs r e. r and (λ x. x.now) e.0)
+pub put_total_unique : Determined put-total.Post (λ κs r e. r and e.0.now)
 put_total_unique κs a r r' e e' = both
 
-pub put_refused_unique : Determined Put-refused.Post (λ κs r e. r and (λ x. x.now) e.0)
+pub put_refused_unique : Determined Put-refused.Post (λ κs r e. r and e.0.now)
 put_refused_unique κs a r r' e e' = both
 
-pub put_recount_unique : Determined put-recount.Post (λ κs r e. r and (λ x. x.now) e.0)
+pub put_recount_unique : Determined put-recount.Post (λ κs r e. r and e.0.now)
 put_recount_unique κs a r r' e e' = both
 
 -- The next part of the listing's text: two slices, of numbers and of bytes.
-pub next_part_unique : Determined next-part.Post (λ κs r e. r and (λ x. x.now) (second e) and (λ x. x.now) (third e))
+pub next_part_unique : Determined next-part.Post (λ κs r e. r and (second e).now and (third e).now)
 next_part_unique κs a r r' e e' x y = ap₂ ◌and◌ (same x.0 y.0) (both x.1 y.1)
 
 -- What the program that writes a catalogue answers: the bytes for both streams, and how many there are.
-pub answer_unique : Determined answer.Post (λ κs r e. r.file and r.text and (λ x. x.now) (second e) and (λ x. x.now) (third e))
+pub answer_unique : Determined answer.Post (λ κs r e. r.file and r.text and (second e).now and (third e).now)
 answer_unique κs a r r' e e' x y = ap₂ ◌and◌ (same x.0 y.0) (ap₂ ◌and◌ (same x.1.0 y.1.0) (both x.1.1 y.1.1))
 
 -- ---- the reader: the toolchain gives no `Post` for a struct that holds a slice, so the clauses themselves stand here, in any model of the logic
@@ -172,7 +172,7 @@ module _ (w : World) where
       (ap₂ ◌and◌ (same x.2 y.2) (ap₂ ◌and◌ (same x.3 y.3) (ap₂ ◌and◌ (same x.4 y.4) (same x.5 y.5)))))
 
   pub reader_unique : DeterminedIn (λ κs a r e. (reader.clauses w.𝓛 w.𝓜.mem w.𝓡.run κs a).ensures tt r e)
-      (λ κs r e. r.refusal and (λ x. x.now) r.body and r.degree and r.top and r.gaps and r.place)
+      (λ κs r e. r.refusal and r.body.now and r.degree and r.top and r.gaps and r.place)
   reader_unique κs a r r' e e' = facts_both all_six
 
   pub next_unique : DeterminedIn (λ κs a r e. (next.clauses w.𝓛 w.𝓜.mem w.𝓡.run κs a).ensures tt r e) (λ κs r e. r)
@@ -199,13 +199,13 @@ c_count_t_value_unique κs a r r' e e' = same
 pub c_sum_of_gaps_unique : Determined c-sum-of-gaps.Post (λ κs r e. r)
 c_sum_of_gaps_unique κs a r r' e e' = same
 
-pub c_first_page_unique : Determined c-first-page.Post (λ κs r e. r and (λ x. x.now) (second e))
+pub c_first_page_unique : Determined c-first-page.Post (λ κs r e. r and (second e).now)
 c_first_page_unique κs a r r' e e' = both
 
-pub c_page_after_unique : Determined c-page-after.Post (λ κs r e. r and (λ x. x.now) (fourth e))
+pub c_page_after_unique : Determined c-page-after.Post (λ κs r e. r and (fourth e).now)
 c_page_after_unique κs a r r' e e' = both
 
-pub c_points_unique : Determined c-points.Post (λ κs r e. r and (λ x. x.now) (sixth e))
+pub c_points_unique : Determined c-points.Post (λ κs r e. r and (sixth e).now)
 c_points_unique κs a r r' e e' = both
 
 pub c_open_unique : Determined c-open.Post (λ κs r e. r)
@@ -217,5 +217,5 @@ c_lookup_unique κs a r r' e e' = same
 pub c_row_unique : Determined c-row.Post (λ κs r e. r)
 c_row_unique κs a r r' e e' = same
 
-pub c_write_unique : Determined c-write.Post (λ κs r e. r and (λ x. x.now) (third e))
+pub c_write_unique : Determined c-write.Post (λ κs r e. r and (third e).now)
 c_write_unique κs a r r' e e' = both

@@ -8,6 +8,7 @@ ghost use Rattle.definitions.specs.Answers.{opening_values, file_values};
 ghost use Rattle.definitions.specs.Calls.{judgement, quotient_test, uniformity, counted, gap_sum, page_answer, page_slice, points_answer, points_slice};
 ghost use Rattle.definitions.specs.Catalogue.{opening};
 ghost use Rattle.definitions.specs.Writing.{file_answer, file_buffer};
+ghost use Rattle.definitions.specs.declared.Position.{Position};
 ghost use Rattle.pair_results.specs.Results.{judgement_result, quotients_result};
 ghost use Rattle.figure_results.specs.Results.{t_value_result, gaps_result};
 ghost use Rattle.slice_results.specs.Results.{page_result, points_result};

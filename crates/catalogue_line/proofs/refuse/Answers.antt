@@ -10,6 +10,6 @@ use Rattle.catalogue_line.proofs.refuse.Goals as goal
 pub returns : goal.returns
 returns c =
     let number = c.args.number in
-    let line = put_front (refused_text number) c.args.text.now (omega (arith, refused_short number (omega (arith, c.fits.number)), c.requires))
-    c.put_refused.ensures.0 c.put_refused.ensures.1 in
+    let line = put_front (refused_text number) c.args.text.now (omega (arith, refused_short number (omega (arith, c.ranges.number)), c.requires))
+    c.put_refused-bytes.ensures.value c.put_refused-bytes.ensures.out_after in
     record { value = ap (λ (n : ℕ). record { file = 0; text = n }) line.0; text_after = line.1 }

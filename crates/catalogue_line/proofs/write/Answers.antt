@@ -8,11 +8,11 @@ pub returns-in-File : goal.returns-in-File
 returns-in-File c =
     let all = outputs_some c.args.numbers.now c.args.file.now c.args.text.now c.requires.numbers_nonzero
     (outputs_file _ _ c.args.file.now c.args.text.now c.requires.longest_file_in_bounds
-    (sym c.write.ensures.value ∙ c.in-File.is) c.write.ensures.file_after) in record { file_value = all.0; text_value = all.1; file_after = all.2; text_after = all.3 }
+    (sym c.write.ensures.value ∙ c.in-File.is) c.write.ensures.file_after) in record { file_value = all.0; text_value = all.1.0; file_after = all.1.1.0; text_after = all.1.1.1 }
 
 pub returns-in-NoFile : goal.returns-in-NoFile
 returns-in-NoFile c =
     let all = outputs_some c.args.numbers.now c.args.file.now c.args.text.now c.requires.numbers_nonzero
     (outputs_refused _ _ c.args.file.now c.args.text.now c.requires.longest_file_in_bounds
     (sym c.write.ensures.value ∙ c.in-NoFile.is) c.write.ensures.file_after
-    (rw c.refusal_number.ensures at c.refuse.ensures.value) (rw c.refusal_number.ensures at c.refuse.ensures.text_after)) in record { file_value = all.0; text_value = all.1; file_after = all.2; text_after = all.3 }
+    (rw c.refusal_number.ensures at c.refuse.ensures.value) (rw c.refusal_number.ensures at c.refuse.ensures.text_after)) in record { file_value = all.0; text_value = all.1.0; file_after = all.1.1.0; text_after = all.1.1.1 }

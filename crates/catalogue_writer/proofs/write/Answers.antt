@@ -45,26 +45,26 @@ length_is c = ap (λ (m : Measure). m.length) c.take_measure-measured.ensures
 
 pub returns-then-not-lawful : goal.returns-then-not-lawful
 returns-then-not-lawful c =
-    let all = laws.wrong-degrees _ _ _ (sym (degrees_are (goal.at.returns-then-not-lawful c).After-are_lawful-lawful) ∙ not-true _ c.if-not-lawful.true) in record { value = all.0; file_after = all.1 }
+    let all = laws.wrong_degrees _ _ _ (sym (degrees_are (goal.at.returns-then-not-lawful c).After-are_lawful-lawful) ∙ not-true _ c.if-not-lawful.true) in record { value = all.0; file_after = all.1 }
 
 pub returns-then-not-lawful-2 : goal.returns-then-not-lawful-2
 returns-then-not-lawful-2 c =
-    let all = laws.wrong-tops _ _ _ (degrees (goal.at.returns-then-not-lawful-2 c).Else-not-lawful) (sym (tops_are (goal.at.returns-then-not-lawful-2 c).After-are_lawful-lawful) ∙ not-true _ c.if-not-lawful-2.true) in record { value = all.0; file_after = all.1 }
+    let all = laws.wrong_tops _ _ _ (degrees (goal.at.returns-then-not-lawful-2 c).Else-not-lawful) (sym (tops_are (goal.at.returns-then-not-lawful-2 c).After-are_lawful-lawful) ∙ not-true _ c.if-not-lawful-2.true) in record { value = all.0; file_after = all.1 }
 
 pub returns-then-not-is_lawful_floor : goal.returns-then-not-is_lawful_floor
 returns-then-not-is_lawful_floor c =
-    let all = laws.wrong-floor _ _ _ (degrees (goal.at.returns-then-not-is_lawful_floor c).Else-not-lawful) (tops (goal.at.returns-then-not-is_lawful_floor c).Else-not-lawful-2) (sym c.is_lawful_floor.ensures ∙ c.if-not-is_lawful_floor.true) in record { value = all.0; file_after = all.1 }
+    let all = laws.wrong_floor _ _ _ (degrees (goal.at.returns-then-not-is_lawful_floor c).Else-not-lawful) (tops (goal.at.returns-then-not-is_lawful_floor c).Else-not-lawful-2) (sym c.is_lawful_floor.ensures ∙ c.if-not-is_lawful_floor.true) in record { value = all.0; file_after = all.1 }
 
 pub returns-then-not-do_ascend : goal.returns-then-not-do_ascend
 returns-then-not-do_ascend c =
-    let all = laws.not-ascending _ _ _ (degrees (goal.at.returns-then-not-do_ascend c).Else-not-lawful) (tops (goal.at.returns-then-not-do_ascend c).Else-not-lawful-2) (in_range (goal.at.returns-then-not-do_ascend c).Else-not-is_lawful_floor) (sym c.do_ascend.ensures ∙ c.if-not-do_ascend.true) in record { value = all.0; file_after = all.1 }
+    let all = laws.not_ascending _ _ _ (degrees (goal.at.returns-then-not-do_ascend c).Else-not-lawful) (tops (goal.at.returns-then-not-do_ascend c).Else-not-lawful-2) (in_range (goal.at.returns-then-not-do_ascend c).Else-not-is_lawful_floor) (sym c.do_ascend.ensures ∙ c.if-not-do_ascend.true) in record { value = all.0; file_after = all.1 }
 
 pub take_measure-measured-requires : goal.take_measure-measured-requires
 take_measure-measured-requires c = lawful c
 
 pub returns-then-file-measured : goal.returns-then-file-measured
 returns-then-file-measured c =
-    let all = laws.too_long _ _ _ (degrees (goal.at.returns-then-file-measured c).Else-not-lawful) (tops (goal.at.returns-then-file-measured c).Else-not-lawful-2) (in_range (goal.at.returns-then-file-measured c).Else-not-is_lawful_floor) (order (goal.at.returns-then-file-measured c).Else-not-do_ascend) (length_is (goal.at.returns-then-file-measured c).After-take_measure-measured) c.if-file-measured.true in record { value = all.0; file_after = all.1 }
+    let all = laws.too_long_lem _ _ _ (degrees (goal.at.returns-then-file-measured c).Else-not-lawful) (tops (goal.at.returns-then-file-measured c).Else-not-lawful-2) (in_range (goal.at.returns-then-file-measured c).Else-not-is_lawful_floor) (order (goal.at.returns-then-file-measured c).Else-not-do_ascend) (length_is (goal.at.returns-then-file-measured c).After-take_measure-measured) c.if-file-measured.true in record { value = all.0; file_after = all.1 }
 
 pub write_file-requires : goal.write_file-requires
 write_file-requires c = record { lawful_entries = lawful (goal.at.write_file-requires c).Else-not-do_ascend; contents_value = ap (λ (r : Measure). r.contents) c.take_measure-measured.ensures; entries_in_bounds = omega (arith, length_is (goal.at.write_file-requires c).After-take_measure-measured, c.if-file-measured.false) }

@@ -36,19 +36,19 @@ passed c = sym c.check_position.ensures ∙ c.in-Passed.is
 pub returns-then-not-is_lawful_degree : goal.returns-then-not-is_lawful_degree
 returns-then-not-is_lawful_degree c =
     let g = c.args in
-    let all = laws.wrong-degree g.request g.out.now (sym c.is_lawful_degree.ensures ∙ not-true _ c.if-not-is_lawful_degree.true-raw) in record { answer = all.0; slice = all.1 }
+    let all = laws.wrong_degree g.request g.out.now (sym c.is_lawful_degree.ensures ∙ not-true _ c.if-not-is_lawful_degree.true-raw) in record { answer = all.0; slice = all.1 }
 
 pub returns-then-not-is_lawful_top : goal.returns-then-not-is_lawful_top
 returns-then-not-is_lawful_top c =
     let g = c.args in
     let degree = sym c.is_lawful_degree.ensures ∙ not-false _ c.if-not-is_lawful_degree.false-raw in
-    let all = laws.wrong-top g.request g.out.now degree (sym c.is_lawful_top.ensures ∙ not-true _ c.if-not-is_lawful_top.true-raw) in record { answer = all.0; slice = all.1 }
+    let all = laws.wrong_top g.request g.out.now degree (sym c.is_lawful_top.ensures ∙ not-true _ c.if-not-is_lawful_top.true-raw) in record { answer = all.0; slice = all.1 }
 
 pub returns-then-not-is_lawful_floor : goal.returns-then-not-is_lawful_floor
 returns-then-not-is_lawful_floor c =
     let known = (goal.at.returns-then-not-is_lawful_floor c).Else-not-is_lawful_top in
     let g = c.args in
-    let all = laws.wrong-floor g.request g.out.now (degree_lawful known) (top_lawful known) (sym c.is_lawful_floor.ensures ∙ not-true _ c.if-not-is_lawful_floor.true-raw) in record { answer = all.0; slice = all.1 }
+    let all = laws.wrong_floor g.request g.out.now (degree_lawful known) (top_lawful known) (sym c.is_lawful_floor.ensures ∙ not-true _ c.if-not-is_lawful_floor.true-raw) in record { answer = all.0; slice = all.1 }
 
 pub check_position-requires : goal.check_position-requires
 check_position-requires c = (list_lawful c).degree
@@ -58,19 +58,19 @@ returns-then-out-width_of c =
     let known = (goal.at.returns-then-out-width_of c).Else-not-is_lawful_top in
     let g = c.args in
     let none = position_passes g.request.degree g.request.floor g.request.position (passed (goal.at.returns-then-out-width_of c).In-Passed) in
-    let all = laws.short-slice g.request g.out.now (degree_lawful known) (top_lawful known) (floor_lawful (goal.at.returns-then-out-width_of c).Else-not-is_lawful_floor) none (omega (arith, c.width_of_lem.ensures)) in record { answer = all.0; slice = all.1 }
+    let all = laws.short_slice g.request g.out.now (degree_lawful known) (top_lawful known) (floor_lawful (goal.at.returns-then-out-width_of c).Else-not-is_lawful_floor) none (omega (arith, c.width_of.ensures)) in record { answer = all.0; slice = all.1 }
 
 pub fill-filled-requires : goal.fill-filled-requires
 fill-filled-requires c =
     let r = c.args.request in
-    (list_lawful (goal.at.fill-filled-requires c).Else-not-is_lawful_floor, position_listed (selection_of r) r.position (passed (goal.at.fill-filled-requires c).In-Passed), omega (arith, c.width_of_lem.ensures))
+    (list_lawful (goal.at.fill-filled-requires c).Else-not-is_lawful_floor, position_listed (selection_of r) r.position (passed (goal.at.fill-filled-requires c).In-Passed), omega (arith, c.width_of.ensures))
 
 pub returns-in-Refused : goal.returns-in-Refused
 returns-in-Refused c =
     let known = (goal.at.returns-in-Refused c).Else-not-is_lawful_top in
     let g = c.args in
     let verdict = sym c.check_position.ensures ∙ c.in-Refused.is in
-    let all = laws.wrong-position g.request g.out.now (degree_lawful known) (top_lawful known) (floor_lawful (goal.at.returns-in-Refused c).Else-not-is_lawful_floor)
+    let all = laws.wrong_position g.request g.out.now (degree_lawful known) (top_lawful known) (floor_lawful (goal.at.returns-in-Refused c).Else-not-is_lawful_floor)
     (position_decides g.request.degree g.request.floor g.request.position verdict) in record { answer = all.0; slice = all.1 }
 
 pub returns-else-out-width_of : goal.returns-else-out-width_of
@@ -79,4 +79,4 @@ returns-else-out-width_of c =
     let g = c.args in
     let none = position_passes g.request.degree g.request.floor g.request.position (passed (goal.at.returns-else-out-width_of c).In-Passed) in
     let all = laws.page_filled g.request g.out.now (degree_lawful known) (top_lawful known) (floor_lawful (goal.at.returns-else-out-width_of c).Else-not-is_lawful_floor) none
-    (omega (arith, c.width_of_lem.ensures)) c.fill-filled.ensures in record { answer = all.0; slice = all.1 }
+    (omega (arith, c.width_of.ensures)) c.fill-filled.ensures in record { answer = all.0; slice = all.1 }

@@ -14,10 +14,10 @@ some_row : (c : After-width_of) → 1 ≤ rows c
 some_row c = let left = c.if-rows-eq0.false in omega (arith, left)
 
 abbrev place : After-width_of → ℕ
-place c = (rows c - 1) * c.width_of_lem.result
+place c = (rows c - 1) * c.width_of.result
 
 place_is : (c : After-width_of) → place c ≡ (rows c - 1) * row_width c.args.at.list
-place_is c = ap (λ (w : ℕ). (rows c - 1) * w) c.width_of_lem.ensures
+place_is c = ap (λ (w : ℕ). (rows c - 1) * w) c.width_of.ensures
 
 pub returns-then-rows-eq0 : goal.returns-then-rows-eq0
 returns-then-rows-eq0 c = laws.handed_none c.args.at c.requires.0 c.requires.1 c.fill-served.ensures c.if-rows-eq0.true

@@ -22,7 +22,7 @@ returns-in-Refused c =
     let lawful = rw is at c.requires.underway in
     let line = put_front (refused_text c.in-Refused.number) c.args.text.now
     (omega (arith, refused_room_lem c.in-Refused.number lawful, c.requires.step_room_in_bounds)) c.put_refused.ensures.value c.put_refused.ensures.out_after in
-    let all = rw is (line_part (Refused c.in-Refused.number) c.args.rows.now c.args.text.now refl line.0 refl line.1) in record { value = all.0; rows_after = all.1; text_after = all.2 }
+    let all = line_part (Refused c.in-Refused.number) c.args.rows.now c.args.text.now refl line.0 refl line.1 in record { value = rw is all.0; rows_after = rw is all.1.0; text_after = rw is all.1.1 }
 
 pub returns-in-Whole : goal.returns-in-Whole
 returns-in-Whole c =
@@ -32,12 +32,14 @@ returns-in-Whole c =
     let line = put_front (header_text list.degree list.top) c.args.text.now
     (omega (arith, header_room list.degree list.top (omega (arith, lawful.0.degree.high)) (omega (arith, lawful.0.top.high)), c.requires.step_room_in_bounds))
     c.put_header.ensures.value c.put_header.ensures.out_after in
-    let all = rw is (line_part (Whole list c.in-Whole.size) c.args.rows.now c.args.text.now refl line.0
-    (ap (λ (d : Cursor). Rows d c.in-Whole.size 0) c.start.ensures) line.1) in record { value = all.0; rows_after = all.1; text_after = all.2 }
+    let all = line_part (Whole list c.in-Whole.size) c.args.rows.now c.args.text.now refl line.0
+    (ap (λ (d : Cursor). Rows d c.in-Whole.size 0) c.start.ensures) line.1 in record { value = rw is all.0; rows_after = rw is all.1.0; text_after = rw is all.1.1 }
 
 pub returns-in-Rows : goal.returns-in-Rows
 returns-in-Rows c =
-    let all = rw c.in-Rows.is (c.next_rows.ensures.value, (c.next_rows.ensures.rows_after, c.next_rows.ensures.text_after)) in record { value = all.0; rows_after = all.1; text_after = all.2 }
+    let is = c.in-Rows.is in
+    let done = c.next_rows.ensures in
+    record { value = rw is done.value; rows_after = rw is done.rows_after; text_after = rw is done.text_after }
 
 pub returns-in-Total : goal.returns-in-Total
 returns-in-Total c =
@@ -45,10 +47,10 @@ returns-in-Total c =
     let lawful = rw is at c.requires.underway in
     let line = put_front (total_text c.in-Total.count) c.args.text.now
     (omega (arith, total_room c.in-Total.count lawful, c.requires.step_room_in_bounds)) c.put_total.ensures.value c.put_total.ensures.out_after in
-    let all = rw is (line_part (Total c.in-Total.count) c.args.rows.now c.args.text.now refl line.0 refl line.1) in record { value = all.0; rows_after = all.1; text_after = all.2 }
+    let all = line_part (Total c.in-Total.count) c.args.rows.now c.args.text.now refl line.0 refl line.1 in record { value = rw is all.0; rows_after = rw is all.1.0; text_after = rw is all.1.1 }
 
 -- ---- nothing
 pub returns-in-Nothing : goal.returns-in-Nothing
 returns-in-Nothing c =
-    let all = rw c.in-Nothing.is
-    (line_part Nothing c.args.rows.now c.args.text.now refl refl refl (sym (over_nothing 0 c.args.text.now))) in record { value = all.0; rows_after = all.1; text_after = all.2 }
+    let is = c.in-Nothing.is in
+    let all = line_part Nothing c.args.rows.now c.args.text.now refl refl refl (sym (over_nothing 0 c.args.text.now)) in record { value = rw is all.0; rows_after = rw is all.1.0; text_after = rw is all.1.1 }

@@ -1,6 +1,7 @@
 -- `count::count_rows` walks the tree from its root with room for one row, the longest. Assumes nothing.
 use mathlib.Core.Path.{refl}
 use mathlib.Core.Bool.{false}
+use mathlib.Core.List.{[]}
 use native.Mathlib.Omega.{arith}
 use Rattle.search.specs.Frame.{width_most}
 use Rattle.page_rows.proofs.SearchLaws as laws

@@ -11,14 +11,14 @@ use Rattle.page_rows.proofs.serve.search_all.Goals.{After-visit-arg-1}
 
 -- How many rows fit.
 abbrev capacity : After-visit-arg-1 → ℕ
-capacity c = length c.args.out.now / c.width_of_lem.result
+capacity c = length c.args.out.now / c.width_of-width.result
 
 capacity_is : (c : After-visit-arg-1) → capacity c ≡ length c.args.out.now / row_width c.args.list
-capacity_is c = ap (λ (w : ℕ). length c.args.out.now / w) c.width_of_lem.ensures
+capacity_is c = ap (λ (w : ℕ). length c.args.out.now / w) c.width_of-width.ensures
 
 -- ---- the rows found have their steps written
-width : (c : After-visit-arg-1) → c.width_of_lem.result ≡ row_width c.args.list
-width c = c.width_of_lem.ensures
+width : (c : After-visit-arg-1) → c.width_of-width.result ≡ row_width c.args.list
+width c = c.width_of-width.ensures
 
 pub visit-found-requires : goal.visit-found-requires
 visit-found-requires c =

@@ -9,7 +9,7 @@ pub returns : goal.returns
 returns c =
     let a = c.args in
     let few = step_room_lem a.size a.done c.requires.done_lt_most_rows a.further a.row.now c.requires.row_len_bound
-    (λ (i : ℕ). omega (arith, c.shared_slice_known-1.given i)) in
+    (λ (i : ℕ). omega (arith, c.type_inv.row i)) in
     let put = step_put a.at a.size a.done a.further a.row.now a.text.now (omega (arith, c.requires.step_room_in_bounds))
     c.put_row-end.ensures.value c.put_row-end.ensures.out_after c.put_due.ensures.value c.put_due.ensures.out_after in
     record { value = put.0; text_after = put.1; row_len_bound_2 = few }

@@ -18,7 +18,7 @@ pub overflow_add-k : goal.overflow_add-k
 overflow_add-k c =
     let i = c.loop-i.i in
     let row = c.args.row.now in
-    omega (arith, c.digits-k.ensures, decimal_short (get_or row i 0), c.shared_slice_known-in-loop-i-1.given i)
+    omega (arith, c.digits-k.ensures, decimal_short (get_or row i 0), c.type_inv.row i)
 
 pub returns-then-left-k : goal.returns-then-left-k
 returns-then-left-k c =
