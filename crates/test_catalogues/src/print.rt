@@ -30,7 +30,7 @@ fn end<W: Write>(output: &mut W) -> io::Result<()> {
 
 // What a reader hands out, and whether it was a row.
 pub(crate) fn shown<W: Write>(output: &mut W, next: NextRow) -> io::Result<bool>
-    ensures { IfOk result (λ is_row. is_row ≡ is_row next) }
+    ensures { IfOk result (λ b. b ≡ is_row next) }
 {
     match next {
         NextRow::Found(r) => {

@@ -1,0 +1,6 @@
+-- `test_catalogues::walk::rows` ends: the measure is how many bytes of the body are behind the reader's place. Assumes nothing.
+use Rattle.test_catalogues.proofs.Moved.{behind}
+use Rattle.test_catalogues.proofs.walk.rows.Given as goal
+
+abbrev pub decreases-loop-at : goal.decreases-loop-at
+decreases-loop-at g l = behind l.at
