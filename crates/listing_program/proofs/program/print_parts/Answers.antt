@@ -1,5 +1,5 @@
 -- A turn of `listing_program::program::print_parts` writes the next part, and what is left behind it is the rest of the text. Assumes nothing.
-use Rattle.std.proofs.Common.{◌≡◌, refl, sym, ap, ◌∙◌, subst, List, [], ◌++◌, ℕ, ◌<◌, ◌≤◌, arith, Bool, false, append_assoc, length, take, Option, None, Some}
+use Rattle.std.proofs.Common.{◌≡◌, sym, ap, ◌∙◌, subst, List, ◌++◌, ℕ, ◌<◌, ◌≤◌, arith, Bool, append_assoc, length, Option, None, Some}
 use Rattle.std.specs.Io.KnownBytes.{Appends}
 use Rattle.paged_rows.specs.Room.{step_room}
 use Rattle.listing_start.specs.Left.{text_left, row_room}
