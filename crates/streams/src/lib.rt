@@ -2,7 +2,7 @@
 // A read or a write that fails ends the program, with its error.
 #![tactic(auto)]
 
-ghost use Rattle.std.specs.Prelude.{◌≡◌, ◌≤◌, [], ◌∷◌, ◌++◌, length, take, drop, flat_map, decimal, IfOk, OnOk};
+ghost use Rattle.std.specs.Prelude.{◌≡◌, ◌≤◌, [], ◌∷◌, ◌++◌, length, take, drop, flat_map, decimal, IfOk, IfErr, OnOk};
 ghost use Rattle.std.specs.Io.KnownBytes.{Appends};
 ghost use Rattle.streams.specs.Lines.{IsNext, TakesLine, spaced};
 
@@ -29,11 +29,12 @@ fn next_byte<R: Read>(reader: &mut R) -> io::Result<Input>
 }
 
 // Reads the line byte by byte, so that nothing behind its newline is read, and answers how many bytes came.
-// A line that fills the buffer is longer than any that can be read.
+// A line that fills the buffer is longer than any that can be read. Where a read fails, the bytes that came before stand over the buffer's front.
 pub fn read_line<R: Read>(reader: &mut R, input: &mut [u8]) -> io::Result<usize>
     ensures in_bounds { IfOk result (λ n. n ≤ length input.new) }
     ensures behind { IfOk result (λ n. drop n input.new ≡ drop n input.old) }
     ensures taken { IfOk result (λ n. TakesLine (R.remaining reader.old) (R.remaining reader.new) (take n input.new) (length input.new)) }
+    ensures on_error { IfErr result (λ e. length input.new ≡ length input.old) }
 {
     let mut n = 0;
     while n < input.len() {
