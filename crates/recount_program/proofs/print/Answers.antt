@@ -9,7 +9,7 @@ use Rattle.recount_line.specs.Printed.{recount_room_lem}
 use Rattle.recount_program.proofs.print.Goals as goal
 
 pub write_front-requires : goal.write_front-requires
-write_front-requires g c = put_within 0 _ _ (omega arith) c.put_recount-end.ensures.value c.put_recount-end.ensures.out_after
+write_front-requires g c = omega (arith, put_within 0 (recount c.args.input.now) (replicate 34 0) (omega arith) c.put_recount-end.ensures.value c.put_recount-end.ensures.out_after)
 
 -- What was put over the front is there.
 put_text : (text out : List ℕ) (r : ℕ) (exit : List ℕ) → r ≡ length text → exit ≡ over 0 text out → take r exit ≡ text

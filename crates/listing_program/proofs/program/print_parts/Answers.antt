@@ -19,7 +19,7 @@ pub write_front-requires : goal.write_front-requires
 write_front-requires g c =
     let at = c.loop-more.at in
     let k : ℕ = rows_that_fit at c.loop-more.rows c.loop-more.text in
-    (put_part k at c.loop-more.text c.next-part.ensures.value c.next-part.ensures.text_after).0
+    omega (arith, (put_part k at c.loop-more.text c.next-part.ensures.value c.next-part.ensures.text_after).0)
 
 pub loop-more-smaller : goal.loop-more-smaller
 loop-more-smaller g c =
