@@ -14,10 +14,8 @@ pub fn powers_of(q: u32, p: u32, lead: u32, n: usize) -> [u32; COORDINATES]
     ensures { PowersOf q p lead n result }
 {
     let mut powers: [u32; COORDINATES] = [1; COORDINATES];
-    let mut j = 1;
-    while j < n {
+    for j in 1..n {
         powers[j] = mul_mod(q, powers[j - 1], p, lead);
-        j += 1;
     }
     powers
 }

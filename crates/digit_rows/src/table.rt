@@ -32,10 +32,8 @@ pub fn add_coordinate(
 {
     let start = coordinate * LARGEST_DEGREE as usize;
     let mut row = mul_mod(q, table[start - LARGEST_DEGREE as usize], p, lead);
-    let mut i = 0;
-    while i < degree {
+    for i in 0..degree {
         table[start + i] = row;
         row = times_x(row, p, lead);
-        i += 1;
     }
 }

@@ -47,9 +47,6 @@ bounds-table-start-in-loop-i c = omega (arith, one (goal.at.bounds-table-start-i
 pub times_x-row-requires : goal.times_x-row-requires
 times_x-row-requires c = record { modulus = modulus (goal.at.times_x-row-requires c).Start; y_lt_lead = c.loop-i.invariant.small }
 
-pub overflow_add-i : goal.overflow_add-i
-overflow_add-i c = omega (arith, one (goal.at.overflow_add-i c).Start)
-
 pub loop-i-preserved : goal.loop-i-preserved
 loop-i-preserved c =
     let start = (goal.at.loop-i-preserved c).Start in
