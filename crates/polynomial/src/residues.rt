@@ -1,9 +1,57 @@
 // Residues modulo p, whose leading term is `lead`: polynomials of a smaller degree.
-ghost use Rattle.std.specs.Prelude.{◌≡◌, ◌*◌, ◌<◌};
+ghost use Rattle.std.specs.Prelude.{◌≡◌, ◌*◌, ◌^◌, ◌<◌};
 ghost use Rattle.definitions.specs.Polynomial.{prod, power, rem};
+ghost use Rattle.number_laws.specs.Bounds.{LawfulDegree};
+ghost use Rattle.polynomial_laws.specs.Degree.{HasDegree};
 ghost use Rattle.polynomial.specs.Modulus.{Modulus};
 
 use crate::digits;
+
+// The residues modulo p, whose leading term is `lead`.
+#[derive(Clone, Copy)]
+pub struct Residues {
+    pub p: u32,
+    pub lead: u32,
+    pub ghost modulus: { Modulus p lead },
+}
+
+impl Residues {
+    // Those modulo p, a polynomial of degree m.
+    pub fn modulo(m: u32, p: u32) -> Residues
+        requires lawful { LawfulDegree m }
+        requires degree { HasDegree p m }
+        ensures { (result.p ≡ p) × (result.lead ≡ 2 ^ m) }
+    {
+        Residues {
+            p,
+            lead: digits::leading_term(m),
+        }
+    }
+
+    // x times y.
+    pub fn times_x(self, y: u32) -> u32
+        requires { y < self.lead }
+        ensures { (result ≡ rem (2 * y) self.p) × (result < self.lead) }
+    {
+        times_x(y, self.p, self.lead)
+    }
+
+    // The product of a and b.
+    pub fn product(self, a: u32, b: u32) -> u32
+        requires { b < self.lead }
+        ensures { (result ≡ rem (prod a b) self.p) × (result < self.lead) }
+    {
+        mul_mod(a, b, self.p, self.lead)
+    }
+
+    // q to the e.
+    pub fn power(self, q: u32, e: u32) -> u32
+        requires { q < self.lead }
+        ensures { (result ≡ rem (power q e) self.p) × (result < self.lead) }
+    {
+        pow_mod(q, e, self.p, self.lead)
+    }
+}
 
 // x times y, with one conditional subtraction of p. The mask compiles to a conditional move, where a comparison would be a branch that the data decides.
 pub fn times_x(y: u32, p: u32, lead: u32) -> u32
