@@ -1,5 +1,5 @@
 -- What the fold over the vectors gives. Assumes nothing.
-use Rattle.std.proofs.Common.{◌≡◌, refl, ◌∙◌, ap, List, ℕ, zero, suc, ◌≤◌, min, bit_xor, get_or, length, take, add-one, arith}
+use Rattle.std.proofs.Common.{◌≡◌, refl, List, ℕ, zero, suc, ◌≤◌, min, bit_xor, get_or, length, take, add-one, arith}
 use Rattle.std.specs.List.{fold}
 use Rattle.std.proofs.Math.Seq.{take-length}
 use Rattle.std.proofs.lemmas.List.Sums.{fold_more}
