@@ -51,7 +51,7 @@ abbrev row : After-next_t-value → List ℕ
 row c = set c.loop-s.row c.loop-s.s c.next_t-value.result
 
 inside : (c : After-next_t-value) → c.loop-s.s < values_end c.args.f.list
-inside c = omega (arith, c.loop-s-test.true, c.values_end-end.ensures)
+inside c = omega (arith, c.values_end-end.ensures)
 
 more : (c : After-next_t-value) → let a = c.args in Written a.f.list a.p a.q (row c) c.next_t-value.result (c.loop-s.s + 1)
 more c =
@@ -97,4 +97,4 @@ returns c =
     let a = c.args in
     let known = c.loop-s.invariant.0 in
     laws.open_known c.requires.searching a.p a.q c.loop-s.row c.loop-s.s known.from (omega (arith, known.to)) known.is known.sized
-    (omega (arith, known.to, c.loop-s-test.false, c.values_end-end.ensures))
+    (omega (arith, known.to, c.values_end-end.ensures))
