@@ -1,11 +1,11 @@
 -- One turn of each loop over plain numbers: a digit row more that is free or not, a coordinate more, and a gap more. Assumes nothing.
-use mathlib.Core.Path.{◌≡◌, refl, sym, ap, ap₂, ◌∙◌}
+use mathlib.Core.Path.{◌≡◌, refl, sym, ap₂, ◌∙◌}
 use mathlib.Core.List.{List, ◌∷◌, ◌++◌}
 use Prim.Native.Nat.{ℕ, zero, suc, ◌+◌, ◌-◌, ◌*◌, ◌/◌, ◌^◌, ◌≤◌, ◌<◌}
 use native.Mathlib.Nat.{suc-mul, zero-mul, le-div_iff_mul-le}
 use native.Mathlib.Numerals.{add-one}
 use native.Mathlib.Omega.{arith}
-use lib.ListN.{get_or, set, length-set, replicate}
+use lib.ListN.{set, length-set, replicate}
 use Rattle.definitions.specs.Number.{sum}
 use Rattle.definitions.specs.Generator.{largest_degree}
 use Rattle.definitions.specs.Polynomial.{rem}
@@ -19,7 +19,6 @@ use Rattle.net_laws.specs.Share.{first_rows}
 use Rattle.gap_laws.specs.Sums.{sum_more}
 use Rattle.gap_laws.specs.Cubes.{cube_rows}
 use Rattle.gap_laws.specs.Resolution.{dimensions, dimension_gap, dimensions_found}
-use Rattle.digit_rows.specs.Powers.{PowersOf}
 use Rattle.digit_rows.specs.Basis.{basis_room, newest, newest_set}
 use Rattle.gaps.specs.Taken.{Taken}
 
