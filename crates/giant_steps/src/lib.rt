@@ -10,6 +10,7 @@ ghost use Rattle.fraction_laws.specs.WellFormed.{WellFormed};
 
 use baby_steps::BABY_STEPS;
 use linear_maps::maps;
+use polynomial::residues::Residues;
 use polynomial::{digits, residues};
 
 // The first power of x, from x itself, that equals q. Where p is primitive every q is met, 1 as the last.
@@ -26,7 +27,7 @@ pub fn step_of(m: u32, p: u32, q: u32) -> u32
     let mut value = [0u32; BABY_STEPS];
     baby_steps::fill(count, q, p, lead, &mut first, &mut next, &mut value);
     let factor = residues::pow_mod(2, count, p, lead);
-    let map = maps::times_map(factor, p, lead);
+    let map = maps::times_map(Residues { p, lead }, factor);
     let mut giant = factor;
     let mut e = count;
     let step = loop {

@@ -29,8 +29,11 @@ fill-requires c =
 pub pow_mod-factor-requires : goal.pow_mod-factor-requires
 pow_mod-factor-requires c = record { modulus = modulus (goal.at.pow_mod-factor-requires c).After-leading_term-lead; q_lt_lead = omega (arith, c.leading_term-lead.ensures, pow_mono {i = 2} {j = c.args.m} c.requires.lawful_degree.low) }
 
+pub invariant_of-times_map : goal.invariant_of-times_map
+invariant_of-times_map c = record { modulus = modulus (goal.at.invariant_of-times_map c).After-leading_term-lead }
+
 pub times_map-map-requires : goal.times_map-map-requires
-times_map-map-requires c = record { modulus = modulus (goal.at.times_map-map-requires c).After-leading_term-lead; lead_bound = omega (arith, lead_high c.requires.lawful_degree, c.leading_term-lead.ensures); c_lt_lead = c.pow_mod-factor.ensures.1 }
+times_map-map-requires c = record { lead_bound = omega (arith, lead_high c.requires.lawful_degree, c.leading_term-lead.ensures); c_lt_lead = c.pow_mod-factor.ensures.1 }
 
 pub loop-first-init : goal.loop-first-init
 loop-first-init c =
