@@ -28,7 +28,7 @@ pub struct Steps {
 
 impl Steps {
     // The first `count` of them.
-    pub fn of(q: u32, count: u32, residues: Residues) -> Steps
+    pub fn of(residues: Residues, q: u32, count: u32) -> Steps
         requires q_lt_lead { q < residues.lead }
         requires between { Between 1 baby_steps count }
         ensures count { result.count ≡ count }

@@ -21,9 +21,9 @@ pub fn step_of(m: u32, p: u32, q: u32) -> u32
 {
     let residues = Residues::modulo(m, p);
     let count: u32 = 1 << (m / 2);
-    let steps = Steps::of(q, count, residues);
+    let steps = Steps::of(residues, q, count);
     let factor = residues.power(2, count);
-    let map = maps::times_map(factor, p, residues.lead);
+    let map = maps::times_map(residues, factor);
     let mut giant = factor;
     let mut e = count;
     let step = loop {

@@ -26,7 +26,7 @@ ground c =
       half = one_shl (c.args.m / 2) (omega (arith, pre.lawful_degree.high));
       held = rw is.0 at c.of-steps.ensures.steps;
       width = (rw is.0 at c.power-factor.ensures.0) ∙ ap (λ (y : ℕ). rem y c.args.p) (power_of_x _);
-      maps = c.times_map-map.ensures;
+      maps = rw is.0 at c.times_map-map.ensures;
     }
 
 pub power-factor-requires : goal.power-factor-requires
