@@ -28,10 +28,6 @@ Squares p lead t = Maps (λ a. rem (prod a a) p) lead t
 abbrev pub Products : ℕ → ℕ → ℕ → List ℕ → Type 0
 Products p q lead t = Maps (λ a. rem (prod q a) p) lead t
 
--- What the table of squares asks, at the leading term.
-pub squares_asked : {m p lead : ℕ} → LawfulDegree m → HasDegree p m → lead ≡ 2 ^ m → Modulus p lead × (lead ≤ 2 ^ largest_degree)
-squares_asked h d e = (lawful_modulus h d e, rw e (lead_high h))
-
 module _ {p lead : ℕ} (h : Modulus p lead) (t : List ℕ) {v r : ℕ} (residue : v < lead) (is : r ≡ image_of t v) where
   pub squared : Squares p lead t → (r ≡ rem (prod v v) p) × (r < lead)
   squared squares =
