@@ -3,15 +3,12 @@ use Prim.Native.Nat.{◌<◌}
 use native.Mathlib.Omega.{arith}
 use Rattle.std.proofs.Common.{rules}
 use Rattle.fraction_laws.specs.Expansion.{rem_less}
-use Rattle.quotient_degrees.proofs.DegreeLaws.{divided_start, divided_end, divided_degree, divided_next}
+use Rattle.quotient_degrees.proofs.DegreeLaws.{divided_end, divided_degree, divided_next}
 use Rattle.quotient_degrees.proofs.quotient_degrees.Goals as goal
 use Rattle.quotient_degrees.proofs.quotient_degrees.Goals.{After-remainder-rest}
 
 nonzero : (c : After-remainder-rest) → 0 < c.loop-b.b
 nonzero c = omega (arith, c.loop-b-test.true)
-
-pub loop-b-init : goal.loop-b-init
-loop-b-init c = divided_start c.requires.q_nonzero c.requires.q_le_p c.degree_of-degree_of_a.ensures.0
 
 pub overflow_sub-degree : goal.overflow_sub-degree
 overflow_sub-degree c = omega (arith, divided_degree c.loop-b.invariant (omega arith), c.degree_of-degree_of_b.ensures.0)
