@@ -64,9 +64,6 @@ limit digits = 1 * 2 ^ (digits + 32) % 2 ^ 64
 limit_is : (digits : ℕ) → digits ≤ 30 → limit digits ≡ 2 ^ (digits + 32)
 limit_is digits l = one_shl_in 64 (digits + 32) (omega arith)
 
-pub limit_some : (digits : ℕ) → digits ≤ 30 → 0 < limit digits
-limit_some digits l = omega (arith, limit_is digits l, pow_pos (digits + 32))
-
 module _ (σ v mask digits : ℕ) (basis : List ℕ) (w r : ℕ) (fits : digits ≤ 30) where
   pub scanning_few : v < limit digits → Summed σ v (mask % limit digits) basis w r → Scanning σ v mask digits basis w r
   scanning_few l s = record {
