@@ -4,7 +4,6 @@ use mathlib.Core.Path.{◌≡◌, sym, ap, ◌∙◌, subst}
 use mathlib.Core.List.{List, ◌∷◌}
 use Prim.Native.Nat.{ℕ, ◌+◌, ◌*◌, ◌%◌, ◌^◌, ◌≤◌, ◌<◌, min}
 use native.Mathlib.Omega.{arith}
-use lib.Pow.{pow_pos}
 use lib.Bits.{bit_xor}
 use Rattle.definitions.specs.Polynomial.{◌⊕◌}
 use Rattle.number_laws.specs.Bounds.{one_shl_in}

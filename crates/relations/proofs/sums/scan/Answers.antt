@@ -1,7 +1,7 @@
 -- `sums::scan` meets its contract: v is below the limit, and the mask is cut off there, or nothing is met. Assumes nothing.
 use Prim.Native.Nat.{◌<◌}
 use native.Mathlib.Omega.{arith}
-use Rattle.relations.proofs.SumLaws.{limit, limit_some, scanning_few, scanning_many}
+use Rattle.relations.proofs.SumLaws.{limit, scanning_few, scanning_many}
 use Rattle.relations.proofs.sums.scan.Goals as goal
 
 pub returns-then-v-limit : goal.returns-then-v-limit

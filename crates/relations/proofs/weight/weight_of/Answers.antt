@@ -1,9 +1,7 @@
 -- `weight::weight_of` meets its contract: before each turn `weight` is the weight but for the rows that what is left of the label names. Assumes
 -- nothing.
-use Prim.Native.Nat.{◌+◌, ◌-◌, ◌<◌}
 use native.Mathlib.Omega.{arith}
-use lib.Count.{count_leading_zeros, leading_le}
-use Rattle.relations.proofs.WeightLaws.{weighing_start, Turn, turn, room, weighing_more, weighed, falls, divides, divides_label}
+use Rattle.relations.proofs.WeightLaws.{weighing_start, Turn, turn, weighing_more, weighed, falls, divides}
 use Rattle.relations.proofs.weight.weight_of.Goals as goal
 use Rattle.relations.proofs.weight.weight_of.Goals.{In-loop-label}
 
