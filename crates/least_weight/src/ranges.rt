@@ -2,7 +2,7 @@
 // one search of the coordinates below serves all shares in the ranges.
 ghost use Rattle.std.specs.Prelude.{◌+◌, ◌<◌, ◌≤◌};
 ghost use Rattle.definitions.specs.Ranking.{largest_top};
-ghost use Rattle.least_weight.specs.Search.{Path, Room, Leaving, Searched, Below};
+ghost use Rattle.least_weight.specs.Places.{PathAt, RoomAt, LeavingAt, SearchedAt, BelowAt, Behind};
 
 use digit_rows::table::TABLE;
 use limits::LARGEST_DEGREE;
@@ -45,39 +45,34 @@ pub fn width(spare: u32, coordinate: u32) -> u32
 }
 
 impl Search<'_> {
-    // The least weight from here on.
-    #[cycle(search_below_search_ranges_take_row)]
-    pub fn search_ranges(self, at: Place, basis: &mut [u64; SLOTS]) -> u32
-        requires path { Path self.table.now self.degree at.coordinate at.digits at.taken at.starts basis.old at.mask }
-        requires room { Room self.degree self.bound at.coordinate at.taken at.digits at.from at.to at.counted at.least }
-        ensures { Searched self.entry.table.now self.entry.degree self.entry.bound at.coordinate at.taken at.digits at.from at.counted at.least at.starts at.mask
-            basis.old basis.new result }
+    // The least weight from here on. Where the range is ended, the coordinates below are gone through, and the next range begins behind it.
+    #[cycle(search_below_search_ranges)]
+    pub fn search_ranges(self, start: Place, basis: &mut [u64; SLOTS]) -> u32
+        requires path { PathAt self.table.now self.degree start basis.old }
+        requires room { RoomAt self.degree self.bound start }
+        ensures { SearchedAt self.entry.table.now self.entry.degree self.entry.bound start basis.old basis.new result }
     {
-        if at.digits < at.to && at.counted + at.digits + self.bound < at.least {
-            return self.take_row(at, basis);
+        let mut at = start;
+        'rows: loop {
+            if at.digits >= at.to || at.counted + at.digits + self.bound >= at.least {
+                at.least = self.search_below(at, basis);
+                if at.counted + at.digits + self.bound >= at.least {
+                    return at.least;
+                }
+                let spare = self.degree + 1 + at.counted + at.digits - at.taken - at.least;
+                at.from = at.digits + 1;
+                at.to = at.from + width(spare, at.coordinate);
+            }
+            at = self.take_row(at, basis);
         }
-        let found = self.search_below(at, basis);
-        if at.counted + at.digits + self.bound >= found {
-            return found;
-        }
-        let next = at.digits + 1;
-        let spare = self.degree + 1 + at.counted + at.digits - at.taken - found;
-        let behind = Place {
-            from: next,
-            to: next + width(spare, at.coordinate),
-            least: found,
-            ..at
-        };
-        self.take_row(behind, basis)
     }
 
     // The least weight with rows of the coordinates below, over the range of the coordinate from `from` to `digits`.
-    #[cycle(search_below_search_ranges_take_row)]
+    #[cycle(search_below_search_ranges)]
     pub fn search_below(self, at: Place, basis: &mut [u64; SLOTS]) -> u32
-        requires path { Path self.table.now self.degree at.coordinate at.digits at.taken at.starts basis.old at.mask }
-        requires leaving { Leaving self.degree self.bound at.coordinate at.taken at.digits at.from at.counted at.least }
-        ensures { Below self.entry.table.now self.entry.degree self.entry.bound at.coordinate at.taken at.digits at.from at.counted at.least at.starts at.mask
-            basis.old basis.new result }
+        requires path { PathAt self.table.now self.degree at basis.old }
+        requires leaving { LeavingAt self.degree self.bound at }
+        ensures { BelowAt self.entry.table.now self.entry.degree self.entry.bound at basis.old basis.new result }
     {
         if at.coordinate == 1 {
             return at.least;
@@ -99,14 +94,12 @@ impl Search<'_> {
         self.search_ranges(below, basis)
     }
 
-    // The least weight from the next digit row of the coordinate on: it is packed, reduced, scanned and kept, and the search goes on behind it.
-    #[cycle(search_below_search_ranges_take_row)]
-    pub fn take_row(self, at: Place, basis: &mut [u64; SLOTS]) -> u32
-        requires path { Path self.table.now self.degree at.coordinate at.digits at.taken at.starts basis.old at.mask }
-        requires room { Room self.degree self.bound at.coordinate at.taken at.digits at.from at.to at.counted at.least }
+    // Takes the next digit row of the coordinate: it is packed, reduced, scanned and kept. The place behind it.
+    pub fn take_row(self, at: Place, basis: &mut [u64; SLOTS]) -> Place
+        requires path { PathAt self.table.now self.degree at basis.old }
+        requires room { RoomAt self.degree self.bound at }
         requires digits_lt_to { (at.digits < at.to) × (at.counted + at.digits + self.bound < at.least) }
-        ensures { Searched self.entry.table.now self.entry.degree self.entry.bound at.coordinate at.taken at.digits at.from at.counted at.least at.starts at.mask
-            basis.old basis.new result }
+        ensures { Behind self.entry.table.now self.entry.degree self.entry.bound at basis.old result basis.new }
     {
         let value = self.table[(at.coordinate * LARGEST_DEGREE + at.digits) as usize];
         let row = (u64::from(value) << 32) ^ (1 << at.taken);
@@ -115,13 +108,12 @@ impl Search<'_> {
         let found = scan(v, at.mask, at.least, few, at.starts, basis);
         let place = 63 - u64::leading_zeros(v);
         basis[place as usize] = v;
-        let next = Place {
+        Place {
             taken: at.taken + 1,
             digits: at.digits + 1,
             least: found,
             mask: at.mask ^ (1 << place),
             ..at
-        };
-        self.search_ranges(next, basis)
+        }
     }
 }
