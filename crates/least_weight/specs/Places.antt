@@ -1,6 +1,6 @@
 -- What the functions of the search are asked and what they answer, at a place of it. m is the degree, f the bound.
 -- Assumes nothing.
-use Rattle.std.specs.Prelude.{◌≡◌, List, ℕ, ◌+◌}
+use Rattle.std.specs.Prelude.{◌≡◌, List, ℕ}
 use Rattle.least_weight.specs.declared.ranges.Place.{Place}
 use Rattle.least_weight.specs.Search.{Path, Room, Leaving, Searched, Below}
 
@@ -20,10 +20,9 @@ SearchedAt table m f at before after r =
 abbrev pub BelowAt : List ℕ → ℕ → ℕ → Place → List ℕ → List ℕ → ℕ → Type 0
 BelowAt table m f at before after r = Below table m f at.coordinate at.taken at.digits at.from at.counted at.least at.starts at.mask before after r
 
--- `next` is behind the next digit row of the place's coordinate: the search from there has what that from the place has.
-pub record Behind (table : List ℕ) (m f : ℕ) (at : Place) (before : List ℕ) (next : Place) (after : List ℕ) : Type 0 where
+-- The search has gone on from `at` to `next`, a place of the same coordinate: what it has from there it has from `at`.
+pub record Reached (table : List ℕ) (m f : ℕ) (at : Place) (before : List ℕ) (next : Place) (now : List ℕ) : Type 0 where
   pub coordinate : next.coordinate ≡ at.coordinate
-  pub digits : next.digits ≡ at.digits + 1
-  pub path : PathAt table m next after
+  pub path : PathAt table m next now
   pub room : RoomAt m f next
-  pub on : (end : List ℕ) (r : ℕ) → SearchedAt table m f next after end r → SearchedAt table m f at before end r
+  pub on : (end : List ℕ) (r : ℕ) → SearchedAt table m f next now end r → SearchedAt table m f at before end r

@@ -1,8 +1,8 @@
 // The search for the lightest relation, over ranges of shares: of each coordinate a range of digits, of which the most are taken and the fewest counted. So
 // one search of the coordinates below serves all shares in the ranges.
-ghost use Rattle.std.specs.Prelude.{◌+◌, ◌<◌, ◌≤◌};
+ghost use Rattle.std.specs.Prelude.{◌≡◌, ◌+◌, ◌<◌, ◌≤◌};
 ghost use Rattle.definitions.specs.Ranking.{largest_top};
-ghost use Rattle.least_weight.specs.Places.{PathAt, RoomAt, LeavingAt, SearchedAt, BelowAt, Behind};
+ghost use Rattle.least_weight.specs.Places.{PathAt, RoomAt, LeavingAt, SearchedAt, BelowAt, Reached};
 
 use digit_rows::table::TABLE;
 use limits::LARGEST_DEGREE;
@@ -99,7 +99,8 @@ impl Search<'_> {
         requires path { PathAt self.table.now self.degree at basis.old }
         requires room { RoomAt self.degree self.bound at }
         requires digits_lt_to { (at.digits < at.to) × (at.counted + at.digits + self.bound < at.least) }
-        ensures { Behind self.entry.table.now self.entry.degree self.entry.bound at basis.old result basis.new }
+        ensures digits { result.digits ≡ at.digits + 1 }
+        ensures reached { Reached self.entry.table.now self.entry.degree self.entry.bound at basis.old result basis.new }
     {
         let value = self.table[(at.coordinate * LARGEST_DEGREE + at.digits) as usize];
         let row = (u64::from(value) << 32) ^ (1 << at.taken);

@@ -1,5 +1,5 @@
 -- `Search::take_row` meets its contract: the row is packed, reduced, scanned and kept. Assumes nothing.
-use Rattle.std.proofs.Common.{◌≡◌, refl, arith}
+use Rattle.std.proofs.Common.{refl, arith}
 use Rattle.relations.specs.Slots.{Reduced}
 use Rattle.least_weight.proofs.RoomLaws.{taking, room_next}
 use Rattle.least_weight.proofs.TurnLaws.{row_at, row_apart, row_leads, path_taken, searched_taken}
@@ -20,14 +20,13 @@ overflow_sub-place c =
     let leads = row_leads t c.requires.path (reduced (goal.at.overflow_sub-place c).After-reduce-v) in
     omega (arith, leads.zeros)
 
-pub returns : goal.returns
-returns c =
+pub returns-clause-reached : goal.returns-clause-reached
+returns-clause-reached c =
     let pre = c.requires in
     let t = taking pre.room pre.digits_lt_to.1 in
-    let by = reduced (goal.at.returns c).After-reduce-v in
+    let by = reduced (goal.at.returns-clause-reached c).After-reduce-v in
     record {
       coordinate = refl;
-      digits = refl;
       path = path_taken t pre.path by;
       room = room_next pre.room c.scan-found.ensures.less pre.digits_lt_to.0 pre.digits_lt_to.1;
       on = λ end r found. searched_taken t pre.path by c.scan-found.ensures found;
