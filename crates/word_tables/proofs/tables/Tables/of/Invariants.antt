@@ -2,7 +2,7 @@
 use Prim.Native.Nat.{◌-◌}
 use Rattle.word_tables.specs.Tables.{size}
 use Rattle.word_tables.specs.Filling.{Filling}
-use Rattle.word_tables.proofs.tables.fill.Given as goal
+use Rattle.word_tables.proofs.tables.Tables.of.Given as goal
 
 abbrev pub invariant-loop-n : goal.invariant-loop-n
 invariant-loop-n l = Filling l.m l.p l.q l.unit l.n l.next l.word
