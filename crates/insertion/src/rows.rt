@@ -15,13 +15,7 @@ fn splice(out: &mut [u32], from: usize, to: usize, row: &[u32])
 }
 
 // Puts `row` in its slot among the `kept` rows at the front of `out`, of which at most `capacity` stay, and answers how many rows are kept now.
-pub fn insert_row(
-    out: &mut [u32],
-    kept: usize,
-    capacity: usize,
-    at: usize,
-    row: &[u32],
-) -> usize
+pub fn insert_row(out: &mut [u32], kept: usize, capacity: usize, at: usize, row: &[u32]) -> usize
     requires width_in_bounds { (kept ≤ capacity) × (capacity * length row.now ≤ length out.old) }
     requires at_value { at ≡ slot row_key row.now (rows_of (length row.now) kept out.old) }
     ensures { ◌≡◌ {A = Kept} (record { out = out.new; n = result })
