@@ -67,6 +67,7 @@ module _ {c : Cursor} {s t : List ℕ} {r : Portion} (h : Handed c s r t) where
           append_assoc done (portion c r) (drop r.rows (left c))
           ∙ ap (λ (rows : List (List ℕ)). done ++ rows) (take-append-drop r.rows (left c))
           ∙ reads.whole
+
       go : (rows : List (List ℕ)) → drop r.rows (left c) ≡ rows → ReadsTo l (done ++ portion c r) (if_left rows (passed c (portion c r)))
       go [] e = sym (append-nil (done ++ portion c r)) ∙ rw e at whole
       go (x ∷ rows) e = record {

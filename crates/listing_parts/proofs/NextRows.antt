@@ -123,8 +123,7 @@ module _ (c : Cursor) (size done k : ℕ) where
             × ((t ≡ over 0 (join (part_rows k at)) s) × (exit ≡ over 0 (part_text k at) text))
         next_put {next} e =
             let behind : next ≡ behind_part k at = e ∙ ap₂ next_printing h.next rows_count ∙ printing_behind in
-            let on : true ≡ goes_on next = sym (ap goes_on e ∙ goes r.next r.rows) in
-            (
+            let on : true ≡ goes_on next = sym (ap goes_on e ∙ goes r.next r.rows) in (
               ap (λ (more : Bool). record { bytes = b; more = more; next = next }) on ∙ part_is k at (bytes ∙ ap length text_is) behind,
               (h.written, put ∙ ap (λ (l : List ℕ). over 0 l text) text_is),
             )

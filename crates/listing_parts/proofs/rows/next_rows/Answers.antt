@@ -1,5 +1,5 @@
 -- `listing_parts::rows::next_rows` has the cursor hand out as many rows as fit both slices, and puts them. Assumes nothing.
-use mathlib.Core.Path.{◌≡◌, ap, ◌∙◌}
+use mathlib.Core.Path.{◌≡◌, refl, ap, ◌∙◌}
 use mathlib.Core.List.{List}
 use Prim.Native.Nat.{ℕ, ◌*◌, ◌/◌, ◌≤◌, min}
 use native.Mathlib.Nat.{mul-le-mul_right}
@@ -74,6 +74,20 @@ put_rows-bytes-requires c =
       step_room_in_bounds = omega arith;
     }
 
-pub returns : goal.returns
-returns c =
-    let h = c.match-portion.branch in ?
+pub returns-in-Some : goal.returns-in-Some
+returns-in-Some c =
+    let known = (goal.at.returns-in-Some c).After-take_rows-portion in
+    let a = c.args in
+    let put = c.put_rows-bytes.ensures in
+    let all = next_put a.from a.size a.done (fit known) (handed known) (some_fit known) c.requires.on_way a.text.now
+    c.if-count-eq0.false c.is_some-further.ensures (rw c.width_of-width.ensures at put.value) (rw c.width_of-width.ensures at put.text_after) (rw c.in-Some.is refl) in
+    record { value = all.0; rows_after = all.1.0; text_after = all.1.1 }
+
+pub returns-in-None : goal.returns-in-None
+returns-in-None c =
+    let known = (goal.at.returns-in-None c).After-take_rows-portion in
+    let a = c.args in
+    let put = c.put_rows-bytes.ensures in
+    let all = next_put a.from a.size a.done (fit known) (handed known) (some_fit known) c.requires.on_way a.text.now
+    c.if-count-eq0.false c.is_some-further.ensures (rw c.width_of-width.ensures at put.value) (rw c.width_of-width.ensures at put.text_after) (rw c.in-None.is refl) in
+    record { value = all.0; rows_after = all.1.0; text_after = all.1.1 }
