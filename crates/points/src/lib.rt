@@ -27,8 +27,8 @@ pub fn points(degree: u32, floor: u32, p: u32, q: u32, first: u32, out: &mut [u3
             if first > last {
                 return PointsAnswer::NotWritten(Refusal::BeyondPeriod);
             }
-            let count = writing::smaller(out.len(), (last - first) as usize + 1);
-            writing::write(degree, p, q, first, count, out);
+            let count = out.len().min((last - first) as usize + 1);
+            writing::write(degree, p, q, first, &mut out[..count]);
             PointsAnswer::Written(count)
         }
     }
