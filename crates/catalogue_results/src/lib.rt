@@ -5,8 +5,8 @@ ghost use Rattle.std.specs.Prelude.{◌≡◌};
 ghost use Rattle.definitions.specs.Answers.{opening_values, file_values};
 ghost use Rattle.catalogue_results.specs.Results.{catalogue_result, body_result, file_result};
 
-use catalogue_seek::Located;
-use definitions::{FileAnswer, Opening};
+use catalogue_seek::BodyPlace;
+use definitions::Refusal;
 
 // How many degrees a catalogue has.
 #[repr(C)]
@@ -16,15 +16,15 @@ pub struct FenyurkaCatalogue {
     pub entries: u32,
 }
 
-pub fn catalogue(answer: Opening) -> FenyurkaCatalogue
+pub fn catalogue(answer: Result<u32, Refusal>) -> FenyurkaCatalogue
     ensures { result ≡ catalogue_result (opening_values answer) }
 {
     match answer {
-        Opening::Entries(entries) => FenyurkaCatalogue {
+        Ok(entries) => FenyurkaCatalogue {
             refusal: 0,
             entries,
         },
-        Opening::Closed(refusal) => FenyurkaCatalogue {
+        Err(refusal) => FenyurkaCatalogue {
             refusal: answers::refusal_number(refusal),
             entries: 0,
         },
@@ -44,11 +44,11 @@ pub struct FenyurkaBody {
     pub row_size: usize,
 }
 
-pub fn body(answer: Located) -> FenyurkaBody
+pub fn body(answer: Result<BodyPlace, Refusal>) -> FenyurkaBody
     ensures { result ≡ body_result answer }
 {
     match answer {
-        Located::At(found) => FenyurkaBody {
+        Ok(found) => FenyurkaBody {
             refusal: 0,
             top: found.top,
             gaps: slice_results::truth(found.gaps),
@@ -57,7 +57,7 @@ pub fn body(answer: Located) -> FenyurkaBody
             length: found.size,
             row_size: found.stride,
         },
-        Located::Missing(refusal) => FenyurkaBody {
+        Err(refusal) => FenyurkaBody {
             refusal: answers::refusal_number(refusal),
             top: 0,
             gaps: 0,
@@ -77,12 +77,12 @@ pub struct FenyurkaFile {
     pub length: usize,
 }
 
-pub fn file(answer: FileAnswer) -> FenyurkaFile
+pub fn file(answer: Result<usize, Refusal>) -> FenyurkaFile
     ensures { result ≡ file_result (file_values answer) }
 {
     match answer {
-        FileAnswer::File(length) => FenyurkaFile { refusal: 0, length },
-        FileAnswer::NoFile(refusal) => FenyurkaFile {
+        Ok(length) => FenyurkaFile { refusal: 0, length },
+        Err(refusal) => FenyurkaFile {
             refusal: answers::refusal_number(refusal),
             length: 0,
         },

@@ -1,11 +1,10 @@
 // What is printed upon a line that can be read.
-ghost use Rattle.std.specs.Prelude.{◌≡◌};
+ghost use Rattle.std.specs.Prelude.{◌≡◌, Some};
 ghost use Rattle.definitions.specs.Answers.{refusal_number};
-ghost use Rattle.definitions.specs.declared.Line.TheVariants.{Asked};
 ghost use Rattle.listing_start.specs.Decision.{printing_of};
 
 use crate::Printing;
-use definitions::{Refusal, Selection};
+use definitions::{Asked, Refusal, Selection};
 
 // The refusal that belongs to programs alone.
 pub(crate) const UNREADABLE: u32 = 0;
@@ -18,29 +17,29 @@ fn refuse(refusal: Refusal) -> Printing
 }
 
 // The list, or its refusal: an unlawful page size first, then the refusals of a page, which no row fits where the size is 0.
-pub(crate) fn decide(degree: u32, top: u32, size: u32, floor: u32) -> Printing
-    ensures { result ≡ printing_of (Asked degree top size floor) }
+pub(crate) fn decide(asked: Asked) -> Printing
+    ensures { result ≡ printing_of (Some asked) }
 {
-    if size > listing::LARGEST_SIZE {
+    if asked.size > listing::LARGEST_SIZE {
         return Printing::Refused(UNREADABLE);
     }
-    if !limits::is_lawful_degree(degree) {
+    if !limits::is_lawful_degree(asked.degree) {
         return refuse(Refusal::WrongDegree);
     }
-    if !limits::is_lawful_top(top) {
+    if !limits::is_lawful_top(asked.top) {
         return refuse(Refusal::WrongDimension);
     }
-    if !limits::is_lawful_floor(floor) {
+    if !limits::is_lawful_floor(asked.floor) {
         return refuse(Refusal::WrongFloor);
     }
-    if size == 0 {
+    if asked.size == 0 {
         return refuse(Refusal::ShortSlice);
     }
     let list = Selection {
-        degree,
-        top,
-        floor,
+        degree: asked.degree,
+        top: asked.top,
+        floor: asked.floor,
         gaps: false,
     };
-    Printing::Whole(list, size)
+    Printing::Whole(list, asked.size)
 }

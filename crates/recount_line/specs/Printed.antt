@@ -1,6 +1,6 @@
 -- What `recount` prints for a line: by the numbers that are read over an array of four zeros, and by what the engines answer; no text is longer than
 -- `recount_room`. Assumes nothing.
-use Rattle.std.specs.Prelude.{◌≡◌, ℕ, ◌*◌, ◌^◌, ◌≤◌, ◌<◌, get_or, take, replicate}
+use Rattle.std.specs.Prelude.{◌≡◌, ℕ, ◌*◌, ◌^◌, ◌≤◌, ◌<◌, get_or, take, replicate, Result, Ok, Err}
 use Rattle.std.proofs.Math.Path.{refl}
 use Rattle.std.proofs.Common.{sym, ap, ◌∙◌}
 use mathlib.Core.List.{List, [], ◌∷◌}
@@ -15,8 +15,6 @@ use Rattle.definitions.specs.Listing.{newline, letters, line_of, line_numbers, n
 use Rattle.definitions.specs.Recount.{both_text, pair_text, recount_text, recount}
 use Rattle.definitions.proofs.Honest.{t_value_at_most}
 use Rattle.definitions.specs.declared.Refusal.{Refusal}
-use Rattle.definitions.specs.declared.Uniformity.{Uniformity}
-use Rattle.definitions.specs.declared.Uniformity.TheVariants.{Value, Undefined}
 use Rattle.number_laws.specs.Bounds.{counted_degree_is}
 use Rattle.answer_laws.specs.Unless.{Decides, here, later, decides_none, NoneApplies, Outcome, is_refused, is_given, outcome}
 use Rattle.answer_laws.specs.Unless.{unless_refused, unless_given}
@@ -84,7 +82,7 @@ abbrev said : Refusal → List ℕ
 said r = refused_text (refusal_number r)
 
 -- What an engine answers, as a struct.
-abbrev pub result : Uniformity → FenyurkaTValue
+abbrev pub result : Result ℕ Refusal → FenyurkaTValue
 result u = t_value_result (uniformity_values u)
 
 module _ (m p q s : ℕ) where
@@ -100,15 +98,15 @@ module _ (m p q s : ℕ) where
   refusal_number_lem (later a (later b (later c d))) = absurd (decides_none d)
 
   -- Where no situation applies both engines give the t-value.
-  refused_count : {r : Refusal} → Decides r (counting m p q s) → counted m p q s ≡ Undefined r
+  refused_count : {r : Refusal} → Decides r (counting m p q s) → counted m p q s ≡ Err r
   unfolding counted
-  refused_count d = unless_refused Undefined (Value t) d
+  refused_count d = unless_refused Err (Ok t) d
 
-  given_count : NoneApplies (counting m p q s) → counted m p q s ≡ Value t
+  given_count : NoneApplies (counting m p q s) → counted m p q s ≡ Ok t
   unfolding counted
-  given_count n = unless_given Undefined (Value t) n
+  given_count n = unless_given Err (Ok t) n
 
-  given_quick : NoneApplies (counting m p q s) → uniformity m p q s ≡ Value t
+  given_quick : NoneApplies (counting m p q s) → uniformity m p q s ≡ Ok t
   given_quick n = sym (counted_uniformity m p q s (given_counted m p q s n)) ∙ given_count n
 
   module _ {count : FenyurkaTValue} (counts : count ≡ result (counted m p q s)) where

@@ -7,7 +7,7 @@ ghost use Rattle.definitions.specs.Number.{bit};
 ghost use Rattle.definitions.specs.Answers.{page_values, points_values};
 ghost use Rattle.slice_results.specs.Results.{page_result, points_result};
 
-use definitions::{PageAnswer, PointsAnswer};
+use definitions::{Page, Refusal};
 
 // A page: whether a further row exists, and how many rows were written.
 #[repr(C)]
@@ -26,17 +26,17 @@ pub fn truth(b: bool) -> u32
     if b { 1 } else { 0 }
 }
 
-pub fn page(answer: PageAnswer) -> FenyurkaPage
+pub fn page(answer: Result<Page, Refusal>) -> FenyurkaPage
     ensures { result ≡ page_result (page_values answer) }
 {
     match answer {
-        PageAnswer::Page(rows, further) => FenyurkaPage {
+        Ok(page) => FenyurkaPage {
             refusal: 0,
             quotient_degree: 0,
-            more: truth(further),
-            count: rows,
+            more: truth(page.further),
+            count: page.rows,
         },
-        PageAnswer::NoPage(refusal) => FenyurkaPage {
+        Err(refusal) => FenyurkaPage {
             refusal: answers::refusal_number(refusal),
             quotient_degree: answers::refusal_degree(refusal),
             more: 0,
@@ -54,16 +54,16 @@ pub struct FenyurkaPoints {
     pub count: usize,
 }
 
-pub fn points(answer: PointsAnswer) -> FenyurkaPoints
+pub fn points(answer: Result<usize, Refusal>) -> FenyurkaPoints
     ensures { result ≡ points_result (points_values answer) }
 {
     match answer {
-        PointsAnswer::Written(words) => FenyurkaPoints {
+        Ok(words) => FenyurkaPoints {
             refusal: 0,
             quotient_degree: 0,
             count: words,
         },
-        PointsAnswer::NotWritten(refusal) => FenyurkaPoints {
+        Err(refusal) => FenyurkaPoints {
             refusal: answers::refusal_number(refusal),
             quotient_degree: answers::refusal_degree(refusal),
             count: 0,

@@ -1,4 +1,5 @@
 -- `points::points` meets its contract: each test says whether its situation applies, and behind the last one the words are written. Assumes nothing.
+use Rattle.std.specs.Prelude.{Ok}
 use mathlib.Core.Path.{◌≡◌, sym, ◌∙◌}
 use mathlib.Core.Bool.{true}
 use native.Mathlib.Omega.{arith}
@@ -6,7 +7,6 @@ use Rattle.definitions.specs.Generator.{lawful_degree, lawful_floor}
 use Rattle.number_laws.specs.Bounds.{LawfulDegree, lawful_degree_is, lead_low}
 use Rattle.verdicts.specs.Verdicts.{pair_verdict}
 use Rattle.verdicts.specs.Refusals.{passed_well_formed}
-use Rattle.verdicts.specs.declared.Verdict.TheVariants.{Passed}
 use Rattle.points.proofs.Answering.{wrong_degree, wrong_floor, answered_pair, answered_beyond, answered_written, words_left}
 use Rattle.points.proofs.points.Goals as goal
 use Rattle.points.proofs.points.Goals.{Else-not-is_lawful_degree, Else-not-is_lawful_floor, In-Passed}
@@ -20,7 +20,7 @@ covered c = (lawful_degree_is _).0 (lawful c)
 floor_is_lawful : (c : Else-not-is_lawful_floor) → lawful_floor c.args.floor ≡ true
 floor_is_lawful c = sym c.is_lawful_floor.ensures ∙ c.if-not-is_lawful_floor.false
 
-passed : (c : In-Passed) → let a = c.args in pair_verdict a.degree a.floor a.p a.q ≡ Passed
+passed : (c : In-Passed) → let a = c.args in pair_verdict a.degree a.floor a.p a.q ≡ (Ok tt)
 passed c = sym c.check_pair.ensures ∙ c.in-Passed.is
 
 pub returns-then-not-is_lawful_degree : goal.returns-then-not-is_lawful_degree

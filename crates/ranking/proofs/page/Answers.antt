@@ -1,4 +1,5 @@
 -- `page` refuses by the first situation of the request that applies, and else fills the slice at its position. Assumes nothing.
+use Rattle.std.specs.Prelude.{Ok}
 use mathlib.Core.Path.{◌≡◌, sym, ◌∙◌}
 use mathlib.Core.Bool.{true}
 use native.Mathlib.Omega.{arith}
@@ -7,7 +8,6 @@ use Rattle.definitions.specs.Calls.{selection_of}
 use Rattle.definitions.specs.Generator.{lawful_degree, lawful_floor}
 use Rattle.definitions.specs.Ranking.{lawful_top}
 use Rattle.number_laws.specs.Bounds.{lawful_degree_is, lawful_top_is}
-use Rattle.verdicts.specs.declared.Verdict.TheVariants.{Passed}
 use Rattle.search.specs.Frame.{LawfulList}
 use Rattle.ranking.specs.Positions.{position_verdict}
 use Rattle.ranking.proofs.PageLaws as laws
@@ -29,7 +29,7 @@ list_lawful c =
     let known = (goal.at.Else-not-is_lawful_floor c).Else-not-is_lawful_top in
     record { degree = (lawful_degree_is _).0 (degree_lawful known); top = (lawful_top_is _).0 (top_lawful known) }
 
-passed : (c : In-Passed) → let r = c.args.request in position_verdict r.degree r.floor r.position ≡ Passed
+passed : (c : In-Passed) → let r = c.args.request in position_verdict r.degree r.floor r.position ≡ (Ok tt)
 passed c = sym c.check_position.ensures ∙ c.in-Passed.is
 
 -- ---- the returns

@@ -1,12 +1,12 @@
 -- `verdicts::check_pair` meets its contract: what is refused before the step is refused, and of what is fit q's order decides, and then the powers of
 -- x below the floor. Assumes nothing.
+use Rattle.std.specs.Prelude.{Ok, Err}
 use mathlib.Core.Path.{◌≡◌, sym, ◌∙◌}
 use mathlib.Core.Bool.{true}
 use Rattle.definitions.specs.Generator.{coprime_step}
 use Rattle.answer_laws.specs.Unless.{unless_refused, unless_given}
 use Rattle.fraction_laws.specs.WellFormed.{well_formed_is}
 use Rattle.verdicts.specs.Verdicts.{Fit, pair_verdict, checked_refused, checked_fit, not_coprime, step_below, all_pass}
-use Rattle.verdicts.specs.declared.Verdict.TheVariants.{Refused, Passed}
 use Rattle.verdicts.proofs.check_pair.Goals as goal
 use Rattle.verdicts.proofs.check_pair.Goals.{Else-not-has_full_order, In-Passed}
 
@@ -23,7 +23,7 @@ has_full_order-requires c = record { lawful_degree = c.requires; well_formed = (
 
 pub returns-then-not-has_full_order : goal.returns-then-not-has_full_order
 unfolding pair_verdict
-returns-then-not-has_full_order c = sym (unless_refused Refused Passed (not_coprime (fit (goal.at.returns-then-not-has_full_order c).In-Passed) _ (sym c.has_full_order.ensures ∙ c.if-not-has_full_order.true)))
+returns-then-not-has_full_order c = sym (unless_refused Err (Ok tt) (not_coprime (fit (goal.at.returns-then-not-has_full_order c).In-Passed) _ (sym c.has_full_order.ensures ∙ c.if-not-has_full_order.true)))
 
 pub reaches_floor-requires : goal.reaches_floor-requires
 reaches_floor-requires c = record { lawful_degree = c.requires; well_formed = (well_formed_is _ _ _).0 (fit (goal.at.reaches_floor-requires c).In-Passed).is_well_formed; p_value = (fit (goal.at.reaches_floor-requires c).In-Passed).primitive_p; q_value = (fit (goal.at.reaches_floor-requires c).In-Passed).linear }
@@ -31,15 +31,15 @@ reaches_floor-requires c = record { lawful_degree = c.requires; well_formed = (w
 pub returns-then-not-reaches_floor : goal.returns-then-not-reaches_floor
 unfolding pair_verdict
 returns-then-not-reaches_floor c =
-    sym (unless_refused Refused Passed
+    sym (unless_refused Err (Ok tt)
     (step_below (fit (goal.at.returns-then-not-reaches_floor c).In-Passed) _ (full_order (goal.at.returns-then-not-reaches_floor c).Else-not-has_full_order) (sym c.reaches_floor.ensures ∙ c.if-not-reaches_floor.true)))
 
 pub returns-in-Refused : goal.returns-in-Refused
 unfolding pair_verdict
-returns-in-Refused c = sym (unless_refused Refused Passed (checked_refused _ _ _ _ c.check_polynomials.ensures c.in-Refused.is))
+returns-in-Refused c = sym (unless_refused Err (Ok tt) (checked_refused _ _ _ _ c.check_polynomials.ensures c.in-Refused.is))
 
 pub returns-else-not-reaches_floor : goal.returns-else-not-reaches_floor
 unfolding pair_verdict
 returns-else-not-reaches_floor c =
-    sym (unless_given Refused Passed
+    sym (unless_given Err (Ok tt)
     (all_pass (fit (goal.at.returns-else-not-reaches_floor c).In-Passed) _ (full_order (goal.at.returns-else-not-reaches_floor c).Else-not-has_full_order) (sym c.reaches_floor.ensures ∙ c.if-not-reaches_floor.false)))

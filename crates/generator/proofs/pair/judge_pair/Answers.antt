@@ -1,5 +1,6 @@
 -- `generator::pair::judge_pair` meets its contract: what is refused before the step is rejected, and else the step found decides, and then the powers
 -- of x below the floor. Assumes nothing.
+use Rattle.std.specs.Prelude.{Ok, Err}
 use mathlib.Core.Path.{◌≡◌, sym, ap, ap₂, ◌∙◌}
 use mathlib.Core.Bool.{true}
 use Prim.Native.Nat.{ℕ, ◌-◌}
@@ -7,7 +8,6 @@ use native.Mathlib.Omega.{arith}
 use borrow.Author.Tests.{eq-eqb, ne_eqb}
 use Rattle.definitions.specs.Number.{gcd}
 use Rattle.definitions.specs.Generator.{step, period, coprime_step}
-use Rattle.definitions.specs.declared.Judgement.TheVariants.{Accepted, Rejected}
 use Rattle.number_laws.specs.Bounds.{lead_low}
 use Rattle.answer_laws.specs.Unless.{unless_refused, unless_given}
 use Rattle.fraction_laws.specs.WellFormed.{well_formed_is}
@@ -35,7 +35,7 @@ overflow_sub-leading_term c = omega (arith, lead_low c.requires, c.leading_term.
 pub returns-then-gcd_of-ne1 : goal.returns-then-gcd_of-ne1
 unfolding pair_judgement
 returns-then-gcd_of-ne1 c =
-    sym (unless_refused Rejected (Accepted _)
+    sym (unless_refused Err (Ok _)
     (not_coprime (fit (goal.at.returns-then-gcd_of-ne1 c).In-Passed) _ (coprime_step_def _ _ _ ∙ ne_eqb _ 1 (λ e. c.if-gcd_of-ne1.true (divisor_is (goal.at.returns-then-gcd_of-ne1 c).After-gcd_of ∙ e)))))
 
 pub reaches_floor-requires : goal.reaches_floor-requires
@@ -44,16 +44,16 @@ reaches_floor-requires c = record { lawful_degree = c.requires; well_formed = (w
 pub returns-then-not-reaches_floor : goal.returns-then-not-reaches_floor
 unfolding pair_judgement
 returns-then-not-reaches_floor c =
-    sym (unless_refused Rejected (Accepted _)
+    sym (unless_refused Err (Ok _)
     (step_below (fit (goal.at.returns-then-not-reaches_floor c).In-Passed) _ (coprime (goal.at.returns-then-not-reaches_floor c).Else-gcd_of-ne1) (sym c.reaches_floor.ensures ∙ c.if-not-reaches_floor.true)))
 
 pub returns-in-Refused : goal.returns-in-Refused
 unfolding pair_judgement
-returns-in-Refused c = sym (unless_refused Rejected (Accepted _) (checked_refused _ _ _ _ c.check_polynomials.ensures c.in-Refused.is))
+returns-in-Refused c = sym (unless_refused Err (Ok _) (checked_refused _ _ _ _ c.check_polynomials.ensures c.in-Refused.is))
 
 pub returns-else-not-reaches_floor : goal.returns-else-not-reaches_floor
 unfolding pair_judgement
 returns-else-not-reaches_floor c =
-    ap Accepted c.find_step-step.ensures
-    ∙ sym (unless_given Rejected (Accepted _)
+    ap Ok c.find_step-step.ensures
+    ∙ sym (unless_given Err (Ok _)
     (all_pass (fit (goal.at.returns-else-not-reaches_floor c).In-Passed) _ (coprime (goal.at.returns-else-not-reaches_floor c).Else-gcd_of-ne1) (sym c.reaches_floor.ensures ∙ c.if-not-reaches_floor.false)))
