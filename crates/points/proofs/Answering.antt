@@ -47,16 +47,16 @@ module _ (m floor p q first : ℕ) (s : List ℕ) where
       answered_pair e =
           not_written (unfold pointing judging in later (ap not h) (later (ap not f) (decides_front _ (verdict_decides m floor p q e))))
 
-      pub answered_beyond : pair_verdict m floor p q ≡ (Ok tt) → period m - 1 < first → Answered m floor p q first s (Err BeyondPeriod) s
+      pub answered_beyond : pair_verdict m floor p q ≡ Ok tt → period m - 1 < first → Answered m floor p q first s (Err BeyondPeriod) s
       answered_beyond e l =
           not_written (unfold pointing judging in later (ap not h) (later (ap not f)
           (decides_behind (verdict_passes m floor p q e) (here (lt-ltb _ _ l)))))
 
       -- ---- or written
-      none_applies : pair_verdict m floor p q ≡ (Ok tt) → first ≤ period m - 1 → NoneApplies (pointing m floor p q first)
+      none_applies : pair_verdict m floor p q ≡ Ok tt → first ≤ period m - 1 → NoneApplies (pointing m floor p q first)
       none_applies e l =
           unfold pointing judging in passes (ap not h) (passes (ap not f) (none_append (verdict_passes m floor p q e) (passes (le-ltb _ _ l) at_end)))
 
-      pub answered_written : {count : ℕ} {s' : List ℕ} → pair_verdict m floor p q ≡ (Ok tt) → first ≤ period m - 1
+      pub answered_written : {count : ℕ} {s' : List ℕ} → pair_verdict m floor p q ≡ Ok tt → first ≤ period m - 1
           → count ≡ word_count m first s → s' ≡ over 0 (words p q first count) s → Answered m floor p q first s (Ok count) s'
       answered_written e l c w = rw (w, c) (answers_points m floor p q first s (answered_given (none_applies e l)))

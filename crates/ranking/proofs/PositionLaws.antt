@@ -19,7 +19,7 @@ use Rattle.verdicts.specs.Refusals.{passed_well_formed, passed_accepted}
 use Rattle.ranking.specs.Positions.{position_verdict}
 
 module _ (m floor : ℕ) {at : Position} where
-  pub start_passes : at ≡ Start → (Ok tt) ≡ position_verdict m floor at
+  pub start_passes : at ≡ Start → Ok tt ≡ position_verdict m floor at
   unfolding position_verdict position_situations
   start_passes e = rw e (sym (unless_given Err (Ok tt) at_end))
 
@@ -27,7 +27,7 @@ module _ (m floor : ℕ) {at : Position} where
   unfolding position_verdict position_situations pair_verdict
   pair_decides e h = rw e h
 
-never : (r : Refusal) → Err r ≡ (Ok tt) → ⊥
+never : (r : Refusal) → ◌≡◌ {A = Result (Unit {0}) Refusal} (Err r) (Ok tt) → ⊥
 never r e = let z : ◌≡◌ {A = ℕ} 0 1 = cc in omega arith
 
 module _ (m floor : ℕ) (at : Position) where
@@ -35,11 +35,11 @@ module _ (m floor : ℕ) (at : Position) where
   unfolding position_verdict
   position_decides {r} = (refused_exactly Err (Ok tt) (position_situations m floor at) r (λ e. never r (sym e)) (λ k e. cc)).0
 
-  pub position_passes : position_verdict m floor at ≡ (Ok tt) → NoneApplies (position_situations m floor at)
+  pub position_passes : position_verdict m floor at ≡ Ok tt → NoneApplies (position_situations m floor at)
   unfolding position_verdict
   position_passes = (given_exactly Err (Ok tt) (position_situations m floor at) never).0
 
-pub position_listed : (l : Selection) (at : Position) → position_verdict l.degree l.floor at ≡ (Ok tt) → ListedPosition (rule_of l) at
+pub position_listed : (l : Selection) (at : Position) → position_verdict l.degree l.floor at ≡ Ok tt → ListedPosition (rule_of l) at
 unfolding position_verdict position_situations pair_verdict
 position_listed l Start e = at_start
 position_listed l (After p q) e =

@@ -1,6 +1,6 @@
 -- What a pair's verdict tells: which of its situations decides, or that none applies; and a pair that passes is well-formed and accepted at the floor.
 -- Assumes nothing.
-use Rattle.std.specs.Prelude.{◌≡◌, true, ℕ, Ok, Err}
+use Rattle.std.specs.Prelude.{◌≡◌, true, ℕ, Result, Ok, Err}
 use Rattle.std.proofs.Common.{sym, arith}
 use borrow.Author.Tests.{not-false}
 use Rattle.definitions.specs.Calls.{pair_situations}
@@ -12,7 +12,7 @@ use Rattle.order_laws.specs.Accepted.{accepted_is}
 use Rattle.order_laws.specs.Floor.{accepted_at_both}
 use Rattle.verdicts.specs.Verdicts.{pair_verdict, Fit}
 
-never : (r : Refusal) → Err r ≡ (Ok tt) → ⊥
+never : (r : Refusal) → ◌≡◌ {A = Result (Unit {0}) Refusal} (Err r) (Ok tt) → ⊥
 never r e = let z : ◌≡◌ {A = ℕ} 0 1 = cc in omega arith
 
 module _ (m floor p q : ℕ) where
@@ -20,7 +20,7 @@ module _ (m floor p q : ℕ) where
   unfolding pair_verdict
   verdict_decides {r} = (refused_exactly Err (Ok tt) (pair_situations m floor p q) r (λ e. never r (sym e)) (λ k e. cc)).0
 
-  pub verdict_passes : pair_verdict m floor p q ≡ (Ok tt) → NoneApplies (pair_situations m floor p q)
+  pub verdict_passes : pair_verdict m floor p q ≡ Ok tt → NoneApplies (pair_situations m floor p q)
   unfolding pair_verdict
   verdict_passes = (given_exactly Err (Ok tt) (pair_situations m floor p q) never).0
 
@@ -29,7 +29,7 @@ module _ (m floor p q : ℕ) where
   fit_for (passes a (passes b (passes c (passes d (passes e at_end))))) =
       (record { is_well_formed = not-false _ a; primitive_p = not-false _ b; linear = not-false _ c }, not-false _ d, not-false _ e)
 
-  module _ (e : pair_verdict m floor p q ≡ (Ok tt)) where
+  module _ (e : pair_verdict m floor p q ≡ Ok tt) where
     pub passed_well_formed : WellFormed m p q
     passed_well_formed = (well_formed_is m p q).0 (fit_for (verdict_passes e)).0.is_well_formed
 

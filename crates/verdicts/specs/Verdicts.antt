@@ -29,7 +29,7 @@ pub checked_refused : (m floor p q : ℕ) {v : Result (Unit {0}) Refusal} {r : R
 unfolding Checked
 checked_refused m floor p q h e = (rw e at h) floor
 
-pub checked_fit : {m p q : ℕ} {v : Result (Unit {0}) Refusal} → Checked m p q v → v ≡ (Ok tt) → Fit m p q
+pub checked_fit : {m p q : ℕ} {v : Result (Unit {0}) Refusal} → Checked m p q v → v ≡ Ok tt → Fit m p q
 unfolding Checked
 checked_fit h e = rw e at h
 
