@@ -16,15 +16,17 @@ pub struct FenyurkaTValue {
     pub t: u32,
 }
 
-pub fn t_value(answer: Result<u32, Refusal>) -> FenyurkaTValue
-    ensures { result ≡ t_value_result (uniformity_values answer) }
-{
-    match answer {
-        Ok(t) => FenyurkaTValue { refusal: 0, t },
-        Err(refusal) => FenyurkaTValue {
-            refusal: answers::refusal_number(refusal),
-            t: 0,
-        },
+impl From<Result<u32, Refusal>> for FenyurkaTValue {
+    ghost from_gives = { λ answer r. r ≡ t_value_result (uniformity_values answer) };
+
+    fn from(answer: Result<u32, Refusal>) -> FenyurkaTValue {
+        match answer {
+            Ok(t) => FenyurkaTValue { refusal: 0, t },
+            Err(refusal) => FenyurkaTValue {
+                refusal: answers::refusal_number(refusal),
+                t: 0,
+            },
+        }
     }
 }
 
@@ -36,14 +38,16 @@ pub struct FenyurkaGaps {
     pub delta: u32,
 }
 
-pub fn gaps(answer: Result<u32, Refusal>) -> FenyurkaGaps
-    ensures { result ≡ gaps_result (gap_sum_values answer) }
-{
-    match answer {
-        Ok(delta) => FenyurkaGaps { refusal: 0, delta },
-        Err(refusal) => FenyurkaGaps {
-            refusal: answers::refusal_number(refusal),
-            delta: 0,
-        },
+impl From<Result<u32, Refusal>> for FenyurkaGaps {
+    ghost from_gives = { λ answer r. r ≡ gaps_result (gap_sum_values answer) };
+
+    fn from(answer: Result<u32, Refusal>) -> FenyurkaGaps {
+        match answer {
+            Ok(delta) => FenyurkaGaps { refusal: 0, delta },
+            Err(refusal) => FenyurkaGaps {
+                refusal: answers::refusal_number(refusal),
+                delta: 0,
+            },
+        }
     }
 }

@@ -6,6 +6,8 @@
 ghost use Rattle.std.specs.Prelude.{◌≤◌, length};
 
 use crate::cases;
+use figure_results::FenyurkaTValue;
+use pair_results::FenyurkaJudgement;
 use std::io;
 use std::io::{Read, Write};
 
@@ -31,7 +33,7 @@ fn polynomial(numbers: &[u32], from: usize, to: usize) -> u32
 fn print_t_values<W: Write>(output: &mut W, m: u32, p: u32, q: u32) -> io::Result<()> {
     let mut s = 3;
     while s <= 8 {
-        let answer = figure_results::t_value(net::t_value(m, p, q, s));
+        let answer = FenyurkaTValue::from(net::t_value(m, p, q, s));
         streams::print_number(output, b" ", answer.t as u64)?;
         s += 1;
     }
@@ -39,7 +41,7 @@ fn print_t_values<W: Write>(output: &mut W, m: u32, p: u32, q: u32) -> io::Resul
 }
 
 fn print_pair<W: Write>(output: &mut W, m: u32, p: u32, q: u32) -> io::Result<()> {
-    let judgement = pair_results::judgement(generator::judge(m, NO_FLOOR, p, q));
+    let judgement = FenyurkaJudgement::from(generator::judge(m, NO_FLOOR, p, q));
     streams::print_numbers(output, b"m", &[m, p, q, judgement.refusal, judgement.step])?;
     print_t_values(output, m, p, q)?;
     streams::new_line(output)

@@ -1,8 +1,0 @@
--- `pair_results::judgement` meets its contract: each case of the answer has the values that its struct says. Assumes nothing.
-use Rattle.pair_results.proofs.judgement.Goals as goal
-
-pub returns-in-Ok : goal.returns-in-Ok
-returns-in-Ok c = rw c.in-Ok.is
-
-pub returns-in-Err : goal.returns-in-Err
-returns-in-Err c = rw (c.in-Err.is, c.refusal_number.ensures, c.refusal_degree.ensures)
