@@ -14,18 +14,17 @@ pub fn row_form(s: &[u8], degree: u32, limit: u32, top: u32, at: usize) -> bool
     ensures { result ≡ row_form degree top s.now at }
 {
     let width = sizes::number_size(degree);
-    if !bytes::numbers_below(s, at, sizes::NUMBERS, width, limit) {
-        return false;
-    }
-    bytes::bytes_below(
-        s,
-        at + sizes::NUMBERS * width,
-        sizes::value_count(top),
-        degree + 1,
-    )
+    bytes::numbers_below(s, at, sizes::NUMBERS, width, limit)
+        && bytes::numbers_below(
+            s,
+            at + sizes::NUMBERS * width,
+            sizes::value_count(top),
+            1,
+            degree + 1,
+        )
 }
 
-// The rows of the body at `at`, the last one first.
+// The rows of the body at `at`.
 pub fn rows_form(
     s: &[u8],
     rows: usize,
@@ -39,14 +38,5 @@ pub fn rows_form(
     ensures { result ≡ rows_form degree top gaps s.now at rows }
 {
     let size = sizes::row_size(degree, top, gaps);
-    let mut left = rows;
-    let mut place = at + rows * size;
-    while left > 0 {
-        left -= 1;
-        place -= size;
-        if !row_form(s, degree, limit, top, place) {
-            return false;
-        }
-    }
-    true
+    (0..rows).all(|k| row_form(s, degree, limit, top, at + k * size))
 }

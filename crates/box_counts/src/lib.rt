@@ -2,8 +2,7 @@
 // lies in. Customers call nothing here.
 #![tactic(auto)]
 
-ghost use Rattle.std.specs.Prelude.{◌≡◌, ◌^◌, ◌-◌, ◌≤◌, eqb, take, get_or};
-ghost use Rattle.definitions.specs.Number.{every};
+ghost use Rattle.std.specs.Prelude.{◌≡◌, ◌^◌, ◌-◌, ◌≤◌, take};
 ghost use Rattle.net_laws.specs.Net.{total};
 ghost use Rattle.counting_laws.specs.Tally.{Tallied};
 ghost use Rattle.counting_laws.specs.Points.{Shaped, box_at, fills_evenly};
@@ -18,7 +17,10 @@ pub fn fills_evenly(points: &[u32; 2048], shape: &[u32; 8], m: u32, s: usize, t:
 {
     let counts = count_in_boxes(points, shape, m, s);
     let boxes: u32 = 1 << (m - t);
-    all_have(&counts, boxes as usize, 1 << t)
+    let wanted = 1 << t;
+    counts[..boxes as usize]
+        .iter()
+        .all(|count| *count == wanted)
 }
 
 // How many points lie in each box, by the number of the box.
@@ -29,25 +31,8 @@ fn count_in_boxes(points: &[u32; 2048], shape: &[u32; 8], m: u32, s: usize) -> [
     let all = digits::leading_term(m) as usize;
     let boxes = box_numbers::boxes_of(points, shape, m, s);
     let mut counts = [0u32; 256];
-    let mut point: usize = 0;
-    while point < all {
-        counts[boxes[point] as usize] += 1;
-        point += 1;
+    for number in &boxes[..all] {
+        counts[*number as usize] += 1;
     }
     counts
-}
-
-// Whether each of the boxes has as many points as are wanted.
-fn all_have(counts: &[u32; 256], boxes: usize, wanted: u32) -> bool
-    requires { boxes ≤ 256 }
-    ensures { result ≡ every boxes (λ b. eqb (get_or counts.now b 0) wanted) }
-{
-    let mut b: usize = 0;
-    while b < boxes {
-        if counts[b] != wanted {
-            return false;
-        }
-        b += 1;
-    }
-    true
 }

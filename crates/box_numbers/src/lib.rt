@@ -14,10 +14,8 @@ pub fn boxes_of(points: &[u32; 2048], shape: &[u32; 8], m: u32, s: usize) -> [u3
     ensures { Boxed m points.now (take s shape.now) result }
 {
     let mut boxes = [0u32; 256];
-    let mut j: usize = 0;
-    while j < s {
+    for j in 0..s {
         boxes = append_digits(&boxes, points, m, j, shape[j]);
-        j += 1;
     }
     boxes
 }
@@ -29,10 +27,8 @@ fn append_digits(boxes: &[u32; 256], points: &[u32; 2048], m: u32, j: usize, d: 
 {
     let all = digits::leading_term(m) as usize;
     let mut longer = [0u32; 256];
-    let mut h: usize = 0;
-    while h < all {
+    for h in 0..all {
         longer[h] = (boxes[h] << d) + (points[j * all + h] >> (m - d));
-        h += 1;
     }
     longer
 }

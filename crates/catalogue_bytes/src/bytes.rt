@@ -8,7 +8,7 @@ pub fn byte(s: &[u8], i: usize) -> u32
     requires { i < length s.now }
     ensures { (result ≡ byte_at s.now i) × (result < 256) }
 {
-    s[i] as u32
+    u32::from(s[i])
 }
 
 // The number in the `width` bytes at a place.
@@ -17,10 +17,8 @@ pub fn number(s: &[u8], at: usize, width: usize) -> u32
     ensures { (result ≡ number_at width s.now at) × (result < 2 ^ (8 * width)) }
 {
     let mut n: u32 = 0;
-    let mut k = 0;
-    while k < width {
-        k += 1;
-        n = n * 256 + byte(s, at + k - 1);
+    for b in &s[at..at + width] {
+        n = n * 256 + u32::from(*b);
     }
     n
 }
@@ -30,29 +28,5 @@ pub fn numbers_below(s: &[u8], at: usize, n: usize, width: usize, bound: u32) ->
     requires { (width ≤ widest) × (at + n * width ≤ length s.now) }
     ensures { result ≡ every n (λ (k : ℕ). ltb (number_at width s.now (at + k * width)) bound) }
 {
-    let mut left = n;
-    let mut place = at + n * width;
-    while left > 0 {
-        left -= 1;
-        place -= width;
-        if number(s, place, width) >= bound {
-            return false;
-        }
-    }
-    true
-}
-
-// Each of the n bytes at `at` is below `bound`.
-pub fn bytes_below(s: &[u8], at: usize, n: usize, bound: u32) -> bool
-    requires { at + n ≤ length s.now }
-    ensures { result ≡ every n (λ (k : ℕ). ltb (byte_at s.now (at + k)) bound) }
-{
-    let mut left = n;
-    while left > 0 {
-        left -= 1;
-        if byte(s, at + left) >= bound {
-            return false;
-        }
-    }
-    true
+    (0..n).all(|k| number(s, at + k * width, width) < bound)
 }

@@ -12,7 +12,7 @@ use definitions::Selection;
 pub fn count(entries: &[u32]) -> usize
     ensures { (floor : ℕ) → result ≡ length (entries_of floor entries.now) }
 {
-    entries.len() / 2 + entries.len() % 2
+    entries.len().div_ceil(2)
 }
 
 // What stands behind the degree at a place: T, or T + 16; where it is missing 0, which is no lawful T.
@@ -20,10 +20,7 @@ fn mark_behind(entries: &[u32], place: usize) -> u32
     requires { place < length entries.now }
     ensures { result ≡ get_or entries.now (place + 1) 0 }
 {
-    if place + 1 < entries.len() {
-        return entries[place + 1];
-    }
-    0
+    entries.get(place + 1).copied().unwrap_or(0)
 }
 
 // The entry at k.
@@ -36,7 +33,7 @@ pub fn entry(floor: u32, entries: &[u32], k: usize) -> Selection
     Selection {
         degree: entries[place],
         top: marks::top_of(mark),
-        floor: floor,
+        floor,
         gaps: marks::has_gaps(mark),
     }
 }

@@ -7,35 +7,25 @@ use catalogue_bytes::sizes;
 use entry_reading::Entry;
 
 // An entry behind the degree `last`, with its body at `at`.
+#[tactic(auto, unfolding(definitions::specs::Catalogue::entry_form))]
 pub fn entry_form(s: &[u8], e: Entry, last: u32, at: usize) -> bool
     requires { at ≤ length s.now }
     ensures { result ≡ entry_form s.now (as_entry e) last at }
 {
-    if !limits::is_lawful_degree(e.degree) {
-        return false;
-    }
-    if e.degree <= last {
-        return false;
-    }
-    if !limits::is_lawful_top(e.top) {
-        return false;
-    }
-    let offset = e.offset as usize;
-    if offset != at {
-        return false;
-    }
-    if entry_reading::body_size(e) > s.len() - at {
-        return false;
-    }
-    body_form::rows_form(
-        s,
-        e.rows as usize,
-        e.degree,
-        1 << e.degree,
-        e.top,
-        e.gaps,
-        at,
-    )
+    limits::is_lawful_degree(e.degree)
+        && e.degree > last
+        && limits::is_lawful_top(e.top)
+        && e.offset as usize == at
+        && entry_reading::body_size(e) <= s.len() - at
+        && body_form::rows_form(
+            s,
+            e.rows as usize,
+            e.degree,
+            1 << e.degree,
+            e.top,
+            e.gaps,
+            at,
+        )
 }
 
 // The n entries, each body directly behind the one before, from `start` on, and the last ends the file.
@@ -43,11 +33,10 @@ pub fn entries_form(s: &[u8], n: usize, start: usize) -> bool
     requires { (behind_entries s.now n first_entry ≤ length s.now) × (start ≤ length s.now) }
     ensures { result ≡ entries_form s.now n first_entry 0 start }
 {
-    let mut left = n;
     let mut place = sizes::FIRST_ENTRY;
     let mut last: u32 = 0;
     let mut at = start;
-    while left > 0 {
+    for _ in 0..n {
         let e = entry_reading::entry_at(s, place);
         if !entry_form(s, e, last, at) {
             return false;
@@ -55,7 +44,6 @@ pub fn entries_form(s: &[u8], n: usize, start: usize) -> bool
         last = e.degree;
         at += entry_reading::body_size(e);
         place += sizes::entry_size(last);
-        left -= 1;
     }
     at == s.len()
 }

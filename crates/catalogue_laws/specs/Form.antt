@@ -2,7 +2,7 @@
 -- Each test of the form by its definition; the entries by the recursion over them, the place of an entry and that of its body going along.
 -- Assumes nothing.
 use Rattle.std.specs.Prelude.{◌≡◌, refl, Bool, true, false, ◌&&◌, List, ℕ, zero, suc, ◌+◌, ◌-◌, ◌*◌, ◌^◌, ◌<◌, ◌≤◌, eqb, leb, ltb, length}
-use Rattle.std.proofs.Common.{ap₂, zero-add, add-zero, lt_of_lt_of_le, add-one, arith, pow_mono, pow-add}
+use Rattle.std.proofs.Common.{ap₂, ◌∙◌, zero-add, add-zero, lt_of_lt_of_le, add-one, arith, pow_mono, pow-add}
 use Rattle.std.proofs.Math.Bool.{and-eq-true_iff}
 use Rattle.std.proofs.Math.Dec.{leb-suc-suc}
 use borrow.Author.Tests.{leb-true, ltb-true, eqb-true, lt-ltb, le-ltb, lt-leb, le-leb, eq-eqb, ne_eqb}
@@ -13,6 +13,7 @@ use Rattle.definitions.specs.Catalogue.{byte_at, number_at, number_size, count_s
 use Rattle.definitions.specs.Catalogue.{gaps_of, top_of, entry_at, first_entry, behind_entry, behind_entries}
 use Rattle.definitions.specs.Catalogue.{contents_end, body_size, most_entries, row_form, entry_form, entries_form, catalogue_form}
 use Rattle.number_laws.specs.Bounds.{LawfulDegree, LawfulTop, lawful_degree_is, lawful_top_is}
+use Rattle.number_laws.specs.Every.{every_ext}
 use Rattle.catalogue_laws.specs.Sizes.{widest, entry_size_is}
 
 -- ---- numbers
@@ -57,9 +58,12 @@ numbers_form_is m s at w limit e f = ap₂ (λ (v b : ℕ). every 3 (λ (k : ℕ
 below_is_at_most : (x m : ℕ) → ltb x (m + 1) ≡ leb x m
 below_is_at_most x m = rw add-one (leb-suc-suc x m)
 
+-- The bytes are numbers of one byte.
 pub values_form_is : (m top : ℕ) (s : List ℕ) (at place n : ℕ) → place ≡ at + numbers_size m → n ≡ values_size top
-    → every n (λ (k : ℕ). ltb (byte_at s (place + k)) (m + 1)) ≡ values_form m top s at
-values_form_is m top s at place n e f = simp (below_is_at_most, e, f)
+    → every n (λ (k : ℕ). ltb (number_at 1 s (place + k * 1)) (m + 1)) ≡ values_form m top s at
+values_form_is m top s at place n e f =
+    every_ext n _ (λ k. ltb (byte_at s (place + k)) (m + 1)) (λ k l. let one : k * 1 ≡ k = omega arith in rw (one, number_one s (place + k)))
+    ∙ simp (below_is_at_most, e, f)
 
 module _ (m top : ℕ) (s : List ℕ) (at : ℕ) where
   pub row_stop : numbers_form m s at ≡ false → row_form m top s at ≡ false

@@ -12,8 +12,14 @@ ghost use Rattle.fraction_laws.specs.WellFormed.{WellFormed};
 ghost use Rattle.counting_laws.specs.Shapes.{every_shape};
 ghost use Rattle.counting_laws.specs.Points.{Digits, Built, Begun, fills_evenly};
 
+<<<<<<< HEAD
 use definitions::Refusal;
 use polynomial::{digits, residues};
+=======
+use definitions::{Refusal, Uniformity};
+use polynomial::digits;
+use polynomial::residues::Residues;
+>>>>>>> origin/main
 use word_tables::word;
 
 // The t-value of a pair, or refusal 1, for a degree that is not 2 to 8, 2 or 3.
@@ -41,10 +47,8 @@ fn build_points(m: u32, p: u32, q: u32) -> [u32; 2048]
 {
     let all = digits::leading_term(m);
     let mut points = [0u32; 2048];
-    let mut i: u32 = 0;
-    while i < 8 * all {
+    for i in 0..8 * all {
         points[i as usize] = coordinate_digits(m, p, q, i % all, i / all);
-        i += 1;
     }
     points
 }
@@ -55,8 +59,8 @@ fn coordinate_digits(m: u32, p: u32, q: u32, h: u32, j: u32) -> u32
     requires well_formed { WellFormed m p q }
     ensures { result ≡ leading p m (coordinate p q j h) }
 {
-    let lead = digits::leading_term(m);
-    let y = residues::mul_mod(h, residues::pow_mod(q, j, p, lead), p, lead);
+    let residues = Residues::modulo(m, p);
+    let y = residues.product(h, residues.power(q, j));
     word::word_of(m, p, y) >> (32 - m)
 }
 
@@ -67,14 +71,12 @@ fn smallest_t(points: &[u32; 2048], s: usize, m: u32) -> u32
     requires lawful_dimension { LawfulDimension s }
     ensures { result ≡ first m 0 (λ t. every_share s (m - t) (fills_evenly m points.now t)) }
 {
-    let mut t: u32 = 0;
-    while t < m {
+    for t in 0..m {
         if every_shape(points, s, 0, m - t, [0u32; 8], m, t) {
             return t;
         }
-        t += 1;
     }
-    t
+    m
 }
 
 // Whether the points fill evenly every shape that begins as this one does, up to coordinate j, and shares `left` digits among the coordinates from j
@@ -96,14 +98,12 @@ fn every_shape(
         whole[j] = left;
         return box_counts::fills_evenly(points, &whole, m, s, t);
     }
-    let mut d: u32 = 0;
-    while d <= left {
+    for d in 0..=left {
         let mut next = shape;
         next[j] = d;
         if !every_shape(points, s, j + 1, left - d, next, m, t) {
             return false;
         }
-        d += 1;
     }
     true
 }

@@ -1,7 +1,11 @@
-// Digits over what stands in a buffer, and whether they fit. The writer asks that they fit, and answers the place behind them.
+// Texts over what stands in a buffer, and whether they fit. What writes asks that its text fits, and answers the place behind it; what puts writes
+// nothing where it does not fit, and answers the place itself.
 ghost use Rattle.std.specs.Prelude.{◌≡◌, ◌+◌, ◌≤◌, leb, length};
 ghost use Rattle.definitions.specs.Number.{over};
 ghost use Rattle.definitions.specs.Listing.{decimal};
+ghost use Rattle.slice_laws.specs.Place.{placed, behind};
+
+use itoa::Buffer;
 
 // Whether n bytes fit behind a place.
 pub fn fits(out: &[u8], at: usize, n: usize) -> bool
@@ -10,33 +14,41 @@ pub fn fits(out: &[u8], at: usize, n: usize) -> bool
     at <= out.len() && n <= out.len() - at
 }
 
+// A text.
+pub fn write_text(out: &mut [u8], at: usize, text: &[u8]) -> usize
+    requires { at + length text.now ≤ length out.old }
+    ensures value { result ≡ at + length text.now }
+    ensures out_after { out.new ≡ over at text.now out.old }
+{
+    let end = at + text.len();
+    out[at..end].copy_from_slice(text);
+    end
+}
+
+// The same where it fits.
+pub fn put_text(out: &mut [u8], at: usize, text: &[u8]) -> usize
+    ensures value { result ≡ behind at text.now out.old }
+    ensures out_after { out.new ≡ placed at text.now out.old }
+{
+    if fits(out, at, text.len()) {
+        write_text(out, at, text)
+    } else {
+        at
+    }
+}
+
 // How many decimal digits n has.
 pub fn digits(n: u32) -> usize
     ensures { result ≡ length (decimal n) }
 {
-    let mut k = 1;
-    let mut rest = n;
-    while rest >= 10 {
-        rest /= 10;
-        k += 1;
-    }
-    k
+    Buffer::new().format(n).len()
 }
 
-// The decimal digits of n, the last one first.
+// The decimal digits of n.
 pub fn write_decimal(out: &mut [u8], at: usize, n: u32) -> usize
     requires { at + length (decimal n) ≤ length out.old }
     ensures value { result ≡ at + length (decimal n) }
     ensures out_after { out.new ≡ over at (decimal n) out.old }
 {
-    let end = at + digits(n);
-    let mut place = end;
-    let mut rest = n;
-    while rest >= 10 {
-        place -= 1;
-        out[place] = b'0' + (rest % 10) as u8;
-        rest /= 10;
-    }
-    out[at] = b'0' + rest as u8;
-    end
+    write_text(out, at, Buffer::new().format(n).as_bytes())
 }

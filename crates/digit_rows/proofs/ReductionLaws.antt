@@ -1,22 +1,21 @@
--- One vector more that reduces. Assumes nothing.
-use mathlib.Core.Path.{◌≡◌}
-use mathlib.Core.List.{List}
-use Prim.Native.Nat.{ℕ, suc, ◌-◌, ◌≤◌, ◌<◌, min}
-use native.Mathlib.Omega.{arith}
-use lib.ListN.{get_or}
-use lib.Bits.{bit_xor}
+-- What the fold over the vectors gives. Assumes nothing.
+use Rattle.std.proofs.Common.{◌≡◌, refl, List, ℕ, zero, suc, ◌≤◌, min, bit_xor, get_or, length, take, add-one, arith}
+use Rattle.std.specs.List.{fold}
+use Rattle.std.proofs.Math.Seq.{take-length}
+use Rattle.std.proofs.lemmas.List.Sums.{fold_more}
 use Rattle.polynomial_laws.specs.Sum.{⊕_def}
 use Rattle.net_laws.specs.Reduction.{reduce, reduce_by}
 use Rattle.digit_rows.specs.Basis.{newest}
 
-pub reduce_start : (b : List ℕ) (e r : ℕ) → r ≡ reduce (newest b (e - e)) r
-unfolding reduce newest
-reduce_start b e r = let none : e - e ≡ 0 = omega arith in rw none
+-- One vector that reduces, as the code has it.
+abbrev pub lower : ℕ → ℕ → ℕ
+lower v x = min v (bit_xor v x)
 
-pub reduce_more : (b : List ℕ) (e left r v w : ℕ) → 0 < left → left ≤ e → v ≡ reduce (newest b (e - left)) r → w ≡ min v (bit_xor v (get_or b (e - left) 0))
-    → w ≡ reduce (newest b (e - (left - 1))) r
+folded : (b : List ℕ) (r i : ℕ) → i ≤ length b → fold lower r (take i b) ≡ reduce (newest b i) r
 unfolding reduce reduce_by newest
-reduce_more b e left r v w some fits before lower =
-    let i = e - left in
-    let next : e - (left - 1) ≡ suc i = omega arith in
-    rw (next, ← before, ⊕_def v (get_or b i 0)) lower
+folded b r zero fits = refl
+folded b r (suc i) fits =
+    rw (← add-one i, fold_more lower r b i 0 (omega arith), folded b r i (omega arith), ⊕_def (reduce (newest b i) r) (get_or b i 0))
+
+pub fold_reduced : (b : List ℕ) (r : ℕ) → fold lower r b ≡ reduce (newest b (length b)) r
+fold_reduced b r = rw (take-length b) at (folded b r (length b) (omega arith))

@@ -1,10 +1,9 @@
 // The digit rows of a pair in a table, one coordinate after the other: each dimension needs one coordinate more.
 ghost use Rattle.std.specs.Prelude.{suc};
-ghost use Rattle.polynomial.specs.Modulus.{Modulus};
 ghost use Rattle.digit_rows.specs.Table.{OneOf, Tabled, Begun};
 
 use limits::{LARGEST_DEGREE, LARGEST_TOP};
-use polynomial::residues::{mul_mod, times_x};
+use polynomial::residues::Residues;
 
 // Digit row i of coordinate j stands at j times the largest degree and i.
 pub const TABLE: usize = LARGEST_TOP as usize * LARGEST_DEGREE as usize;
@@ -18,24 +17,20 @@ pub fn first_coordinate() -> [u32; TABLE]
 
 // Writes the digit rows of one coordinate more: the first is q times that of the coordinate before, and each other x times the one before it.
 pub fn add_coordinate(
-    p: u32,
+    residues: Residues,
     q: u32,
-    lead: u32,
     degree: usize,
     coordinate: usize,
     table: &mut [u32; TABLE],
 )
-    requires modulus { Modulus p lead }
     requires one_of { OneOf degree coordinate }
-    requires tabled { Tabled p q lead degree coordinate table.old }
-    ensures { Tabled p q lead degree (suc coordinate) table.new }
+    requires tabled { Tabled residues.p q residues.lead degree coordinate table.old }
+    ensures { Tabled residues.p q residues.lead degree (suc coordinate) table.new }
 {
     let start = coordinate * LARGEST_DEGREE as usize;
-    let mut row = mul_mod(q, table[start - LARGEST_DEGREE as usize], p, lead);
-    let mut i = 0;
-    while i < degree {
+    let mut row = residues.product(q, table[start - LARGEST_DEGREE as usize]);
+    for i in 0..degree {
         table[start + i] = row;
-        row = times_x(row, p, lead);
-        i += 1;
+        row = residues.times_x(row);
     }
 }

@@ -47,10 +47,7 @@ pub fn body_size(e: Entry) -> usize
 pub fn degree_at(s: &[u8], place: usize) -> u32
     ensures { result ≡ byte_at s.now place }
 {
-    if place < s.len() {
-        return bytes::byte(s, place);
-    }
-    0
+    s.get(place).map_or(0, |b| u32::from(*b))
 }
 
 // The place behind the n entries.
@@ -58,11 +55,9 @@ pub fn contents_end(s: &[u8], n: usize) -> usize
     requires { n ≤ most_entries }
     ensures { result ≡ behind_entries s.now n first_entry }
 {
-    let mut left = n;
     let mut place = sizes::FIRST_ENTRY;
-    while left > 0 {
+    for _ in 0..n {
         place += sizes::entry_size(degree_at(s, place));
-        left -= 1;
     }
     place
 }

@@ -1,7 +1,7 @@
 // The tests of the entries that a catalogue is asked for: lawful degrees, lawful T, and degrees that ascend. Customers call nothing here.
 #![tactic(auto)]
 
-ghost use Rattle.std.specs.Prelude.{◌≡◌, ◌&&◌};
+ghost use Rattle.std.specs.Prelude.{◌≡◌};
 ghost use Rattle.definitions.specs.Writing.{entries_of, ascending};
 ghost use Rattle.entry_tests.specs.Tests.{lawful_of};
 
@@ -14,29 +14,14 @@ pub struct Lawful {
     pub tops: bool,
 }
 
-fn both(a: bool, b: bool) -> bool
-    ensures { result ≡ (a && b) }
-{
-    if a {
-        return b;
-    }
-    false
-}
-
 pub fn are_lawful(floor: u32, entries: &[u32]) -> Lawful
     ensures { result ≡ lawful_of (entries_of floor entries.now) }
 {
     let n = count(entries);
-    let mut degrees = true;
-    let mut tops = true;
-    let mut k = 0;
-    while k < n {
-        let list = entry(floor, entries, k);
-        degrees = both(degrees, limits::is_lawful_degree(list.degree));
-        tops = both(tops, limits::is_lawful_top(list.top));
-        k += 1;
+    Lawful {
+        degrees: (0..n).all(|k| limits::is_lawful_degree(entry(floor, entries, k).degree)),
+        tops: (0..n).all(|k| limits::is_lawful_top(entry(floor, entries, k).top)),
     }
-    Lawful { degrees, tops }
 }
 
 // Whether each degree is above the one before it.
@@ -44,12 +29,5 @@ pub fn do_ascend(floor: u32, entries: &[u32]) -> bool
     ensures { result ≡ ascending (entries_of floor entries.now) }
 {
     let n = count(entries);
-    let mut k = 1;
-    while k < n {
-        if entry(floor, entries, k).degree <= entry(floor, entries, k - 1).degree {
-            return false;
-        }
-        k += 1;
-    }
-    true
+    (1..n).all(|k| entry(floor, entries, k - 1).degree < entry(floor, entries, k).degree)
 }

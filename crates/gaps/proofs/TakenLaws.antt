@@ -1,11 +1,11 @@
 -- One turn of each loop over plain numbers: a digit row more that is free or not, a coordinate more, and a gap more. Assumes nothing.
-use mathlib.Core.Path.{◌≡◌, refl, sym, ap, ap₂, ◌∙◌}
+use mathlib.Core.Path.{◌≡◌, refl, sym, ap₂, ◌∙◌}
 use mathlib.Core.List.{List, ◌∷◌, ◌++◌}
 use Prim.Native.Nat.{ℕ, zero, suc, ◌+◌, ◌-◌, ◌*◌, ◌/◌, ◌^◌, ◌≤◌, ◌<◌}
 use native.Mathlib.Nat.{suc-mul, zero-mul, le-div_iff_mul-le}
 use native.Mathlib.Numerals.{add-one}
 use native.Mathlib.Omega.{arith}
-use lib.ListN.{get_or, set, length-set, replicate}
+use lib.ListN.{set, length-set, replicate}
 use Rattle.definitions.specs.Number.{sum}
 use Rattle.definitions.specs.Generator.{largest_degree}
 use Rattle.definitions.specs.Polynomial.{rem}
@@ -19,7 +19,6 @@ use Rattle.net_laws.specs.Share.{first_rows}
 use Rattle.gap_laws.specs.Sums.{sum_more}
 use Rattle.gap_laws.specs.Cubes.{cube_rows}
 use Rattle.gap_laws.specs.Resolution.{dimensions, dimension_gap, dimensions_found}
-use Rattle.digit_rows.specs.Powers.{PowersOf}
 use Rattle.digit_rows.specs.Basis.{basis_room, newest, newest_set}
 use Rattle.gaps.specs.Taken.{Taken}
 
@@ -28,9 +27,6 @@ pub row_fits : (last l i : ℕ) → suc last * l ≤ largest_degree → i < l �
 row_fits last l i fits less = omega (arith, suc-mul last l)
 
 -- ---- the rows of a coordinate
-pub row_first : {q p lead n : ℕ} {xs : List ℕ} → PowersOf q p lead n xs → (last : ℕ) → last + 1 < n → get_or xs (last + 1) 0 ≡ digit_row p q (suc last) 0
-row_first {q} {p} known last less = known.powers (last + 1) less ∙ ap (λ (j : ℕ). digit_row p q j 0) (add-one last)
-
 module _ {p lead : ℕ} (h : Modulus p lead) (q j i : ℕ) {row : ℕ} (at : row ≡ digit_row p q j i) where
   pub row_lt : row < lead
   row_lt = rw (at, h.leading) (digit_row_lt p (modulus_positive h) q j i)
@@ -82,9 +78,6 @@ module _ (G : ℕ → ℕ → ℕ) (l : ℕ) where
 pub most_least : {m l : ℕ} → Between 1 m l → 1 ≤ m / l
 most_least {m} {l} h = (le-div_iff_mul-le {k = l} {x = 1} h.low).1 (omega (arith, h.high))
 
-pub coordinate_fits : {m l : ℕ} → Between 1 m l → (last : ℕ) → last + 1 ≤ m / l → suc last * l ≤ m
-coordinate_fits {m} {l} h last fits = (le-div_iff_mul-le {k = l} {x = suc last} h.low).0 (omega arith)
-
 pub dimensions_are : {m p l last : ℕ} {b : List ℕ} → HasDegree p m → (q : ℕ) → Between 1 m l → last + 1 ≤ m / l → Taken (digit_row p q) l last 0 b
     → (last + 1 < m / l → Free l (cube_rows (digit_row p q) l (suc last)) → ⊥) → last + 1 ≡ dimensions m p q l
 unfolding first_rows
@@ -92,6 +85,8 @@ dimensions_are {m} {p} {l} {last} of q h fits at full =
     add-one last ∙ dimensions_found m p of q last l h.low h.high (omega arith) at.free (λ less. full (omega arith))
 
 -- ---- one gap more
-pub gap_more : (m p q d g s : ℕ) → g ≡ sum d (dimension_gap m p q) → s ≡ dimensions m p q (d + 1) → g + (m / (d + 1) - s) ≡ sum (d + 1) (dimension_gap m p q)
+pub gap_more : (m p q d g s : ℕ) → 1 ≤ d → g ≡ sum (d - 1) (dimension_gap m p q) → s ≡ dimensions m p q d → g + (m / d - s) ≡ sum d (dimension_gap m p q)
 unfolding dimension_gap
-gap_more m p q d g s so_far found = rw (so_far, found, add-one d, sum_more) (omega arith)
+gap_more m p q zero g s some so_far found = absurd (omega arith)
+gap_more m p q (suc d) g s some so_far found =
+    let before : suc d - 1 ≡ d = omega arith in rw (so_far, before, found, sum_more) (omega arith)

@@ -1,41 +1,17 @@
 // Putting a row in among the rows at the front of a lent slice.
 ghost use Rattle.std.specs.Prelude.{◌≡◌, ◌+◌, ◌*◌, ◌≤◌, length, take};
-ghost use Rattle.definitions.specs.Number.{over};
 ghost use Rattle.definitions.specs.Ranking.{row_key};
 ghost use Rattle.page_laws.specs.Slot.{slot};
-ghost use Rattle.page_laws.specs.Rows.{rows_of, shifted, spliced, inserted, Kept};
+ghost use Rattle.page_laws.specs.Rows.{rows_of, spliced, inserted, Kept};
 
-// Moves the numbers from `from` up to `to` up by `width`, the last first.
-fn shift(out: &mut [u32], from: usize, to: usize, width: usize)
-    requires { (from ≤ to) × (to + width ≤ length out.old) }
-    ensures { out.new ≡ shifted from to width out.old }
-{
-    let mut j = to;
-    while from < j {
-        j -= 1;
-        out[j + width] = out[j];
-    }
-}
-
-// Writes the first `width` numbers of `row` at `base`.
-fn write_row(out: &mut [u32], base: usize, row: &[u32], width: usize)
-    requires { (width ≤ length row.now) × (base + width ≤ length out.old) }
-    ensures { out.new ≡ over base (take width row.now) out.old }
-{
-    let mut i: usize = 0;
-    while i < width {
-        out[base + i] = row[i];
-        i += 1;
-    }
-}
-
-// Puts `row` in at `from`, and moves what stands there up to `to` behind it.
+// Puts the first `width` numbers of `row` in at `from`, and moves what stands there up to `to` behind them.
 fn splice(out: &mut [u32], from: usize, to: usize, width: usize, row: &[u32])
     requires { (width ≤ length row.now) × (from ≤ to) × (to + width ≤ length out.old) }
     ensures { out.new ≡ spliced from to (take width row.now) out.old }
 {
-    shift(out, from, to, width);
-    write_row(out, from, row, width);
+    let behind = from + width;
+    out.copy_within(from..to, behind);
+    out[from..behind].copy_from_slice(&row[..width]);
 }
 
 // Puts `row` in its slot among the `kept` rows at the front of `out`, of which at most `capacity` stay, and answers how many rows are kept now.

@@ -1,2 +1,2 @@
--- Laws of the functions' proofs.
+-- What the proofs of this crate share.
 pub mod ReadLaws

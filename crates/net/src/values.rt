@@ -9,6 +9,7 @@ ghost use Rattle.net.specs.Bound.{Stop};
 
 use digit_rows::table::{TABLE, add_coordinate, first_coordinate};
 use least_weight::weight::least_weight;
+use polynomial::residues::Residues;
 
 // t(s), where `before` is t(s - 1) and the table has the digit rows of s - 1 coordinates; it gets those of one more.
 pub fn next_t(
@@ -27,7 +28,13 @@ pub fn next_t(
     requires before_value { before ≡ t_value degree p q (s - 1) }
     ensures { (result ≡ t_value degree p q s) × Tabled p q (2 ^ degree) degree s table.new }
 {
-    add_coordinate(p, q, 1 << degree, degree as usize, s - 1, table);
+    add_coordinate(
+        Residues::modulo(degree, p),
+        q,
+        degree as usize,
+        s - 1,
+        table,
+    );
     let least = least_weight((s - 1) as u32, degree + 1 - before, degree, bound, table);
     degree + 1 - least
 }
@@ -41,9 +48,7 @@ pub fn t_at(degree: u32, p: u32, q: u32, s: usize, bound: u32) -> u32
 {
     let mut table = first_coordinate();
     let mut value = 0;
-    let mut dimension = 1;
-    while dimension < s {
-        dimension += 1;
+    for dimension in 2..=s {
         value = next_t(degree, p, q, dimension, value, &mut table, bound);
     }
     value

@@ -4,6 +4,7 @@ pub mod Gcd
 pub mod First
 pub mod Largest
 pub mod Every
+pub mod Ranges
 pub mod Count
 pub mod Pigeon
 pub mod Lists

@@ -1,5 +1,5 @@
 // Rows put into a text one behind the other, with the lines of their pages.
-ghost use Rattle.std.specs.Prelude.{◌≡◌, ◌||◌, ◌+◌, ◌*◌, ◌≤◌, ◌<◌, length};
+ghost use Rattle.std.specs.Prelude.{◌≡◌, ◌+◌, ◌*◌, ◌≤◌, ◌<◌, length};
 ghost use Rattle.definitions.specs.Number.{over};
 ghost use Rattle.definitions.specs.Ranking.{longest_row};
 ghost use Rattle.page_laws.specs.Rows.{rows_of};
@@ -23,16 +23,6 @@ fn put_step(text: &mut [u8], at: usize, row: &[u32], size: u32, done: u32, furth
     put_due(text, end, size, done, further)
 }
 
-// Whether one of two holds.
-fn either(a: bool, b: bool) -> bool
-    ensures { result ≡ (a || b) }
-{
-    if a {
-        return true;
-    }
-    b
-}
-
 // The first rows of a slice, behind `done` rows printed before; `further` says that the list goes on behind them.
 pub fn put_rows(
     text: &mut [u8],
@@ -52,19 +42,11 @@ pub fn put_rows(
     ensures text_after { text.new ≡ over 0 (rows_text size done further (rows_of width count rows.now)) text.old }
 {
     let mut at = 0;
-    let mut i = 0;
-    while i < count {
+    for i in 0..count {
         let from = i * width;
-        let to = from + width;
-        at = put_step(
-            text,
-            at,
-            &rows[from..to],
-            size,
-            done + i as u32,
-            either(i + 1 < count, further),
-        );
-        i += 1;
+        let row = &rows[from..from + width];
+        let more = i + 1 < count || further;
+        at = put_step(text, at, row, size, done + i as u32, more);
     }
     at
 }

@@ -24,7 +24,7 @@ pub fn points(degree: u32, floor: u32, p: u32, q: u32, first: u32, out: &mut [u3
     if first > last {
         return Err(Refusal::BeyondPeriod);
     }
-    let count = writing::smaller(out.len(), (last - first) as usize + 1);
-    writing::write(degree, p, q, first, count, out);
+    let count = out.len().min((last - first) as usize + 1);
+    writing::write(degree, p, q, first, &mut out[..count]);
     Ok(count)
 }

@@ -11,6 +11,15 @@ use Rattle.polynomial_laws.specs.Power.{power_zero, power_one, power_add, power_
 use Rattle.polynomial.specs.Digits.{shifted_half}
 use Rattle.polynomial.specs.Modulus.{Modulus, modulus_positive, modulus_one}
 
+-- A call on residues, by what it requires and what it ensures: it may be made at each residue, and its result is one.
+pub record Step (pre : ℕ → Type 0) (post : ℕ → ℕ → Type 0) (lead : ℕ) : Type 0 where
+  pub callable : (y : ℕ) → y < lead → pre y
+  pub stays : (y r : ℕ) → y < lead → post y r → r < lead
+
+-- and the residue is that of f y
+abbrev pub Gives : (ℕ → ℕ → Type 0) → (ℕ → ℕ) → ℕ → ℕ → Type 0
+Gives post f p lead = (y r : ℕ) → y < lead → post y r → r ≡ rem (f y) p
+
 -- A power of q modulo p on the way, with i digits of e to come: q to the number that the digits before them write.
 pub record PowerAt (p lead q e i r : ℕ) : Type 0 where
   pub places : i ≤ 32

@@ -15,10 +15,7 @@ pub fn put_row(out: &mut [u8], at: usize, row: &[u32]) -> usize
     ensures value { result ≡ behind at (row_text row.now) out.old }
     ensures out_after { out.new ≡ placed at (row_text row.now) out.old }
 {
-    if at > out.len() {
-        return at;
-    }
-    if row_fits(row, out.len() - at) {
+    if at <= out.len() && row_fits(row, out.len() - at) {
         write_row(out, at, row)
     } else {
         at

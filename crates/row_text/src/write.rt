@@ -10,18 +10,16 @@ use decimal_text::write::{digits, write_decimal};
 pub fn row_fits(row: &[u32], room: usize) -> bool
     ensures { result ≡ leb (length (row_text row.now)) room }
 {
-    if row.len() == 0 {
+    if row.is_empty() {
         return room > 0;
     }
     let mut left = room;
-    let mut i = 0;
-    while i < row.len() {
-        let k = digits(row[i]) + 1;
+    for n in row {
+        let k = digits(*n) + 1;
         if left < k {
             return false;
         }
         left -= k;
-        i += 1;
     }
     true
 }
@@ -46,11 +44,9 @@ pub fn write_row(out: &mut [u8], at: usize, row: &[u32]) -> usize
     ensures out_after { out.new ≡ over at (row_text row.now) out.old }
 {
     let mut place = at;
-    let mut i = 0;
-    while i < row.len() {
+    for (i, n) in row.iter().enumerate() {
         let start = write_gap(out, place, i);
-        place = write_decimal(out, start, row[i]);
-        i += 1;
+        place = write_decimal(out, start, *n);
     }
     out[place] = b'\n';
     place + 1

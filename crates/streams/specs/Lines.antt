@@ -1,13 +1,11 @@
 -- What is taken from a reader whose bytes are known. Assumes nothing.
-use Rattle.std.specs.Prelude.{◌≡◌, ◌≢◌, ◌⊎◌, ℕ, List, [], ◌∷◌, ◌++◌, length, decimal, All, Option}
+use Rattle.std.specs.Prelude.{◌≡◌, ◌≢◌, ◌⊎◌, ℕ, List, [], ◌∷◌, ◌++◌, length, decimal, All, Option, None, Some}
 use Rattle.std.specs.Io.KnownBytes.{Consumes, IsAtEnd}
-use Rattle.streams.specs.declared.Input.{Input}
-use Rattle.streams.specs.declared.Input.TheVariants.{Byte, End}
 
 -- The first byte that was left, or that none was.
-abbrev pub IsNext : Option (List ℕ) → Option (List ℕ) → Input → Type 0
-IsNext old new (Byte b) = Consumes old new (b ∷ [])
-IsNext old new End = Consumes old new [] × IsAtEnd new
+abbrev pub IsNext : Option (List ℕ) → Option (List ℕ) → Option ℕ → Type 0
+IsNext old new (Some b) = Consumes old new (b ∷ [])
+IsNext old new None = Consumes old new [] × IsAtEnd new
 
 -- Bytes without a newline are taken: a line, with its newline and nothing behind it; or all that was left; or as much as there is room for.
 abbrev pub TakesLine : Option (List ℕ) → Option (List ℕ) → List ℕ → ℕ → Type 0

@@ -9,23 +9,13 @@ ghost use Rattle.streams.specs.Lines.{IsNext, TakesLine, spaced};
 use std::io;
 use std::io::{Read, Write};
 
-// A byte of the input, or its end.
-#[derive(Clone, Copy)]
-enum Input {
-    Byte(u8),
-    End,
-}
-
-fn next_byte<R: Read>(reader: &mut R) -> io::Result<Input>
+// The next byte of the input, if there is one.
+fn next_byte<R: Read>(reader: &mut R) -> io::Result<Option<u8>>
     ensures { IfOk result (IsNext (R.remaining reader.old) (R.remaining reader.new)) }
 {
     let mut byte = [0u8; 1];
     let got = reader.read(&mut byte)?;
-    if got == 1 {
-        Ok(Input::Byte(byte[0]))
-    } else {
-        Ok(Input::End)
-    }
+    Ok((got == 1).then_some(byte[0]))
 }
 
 // Reads the line byte by byte, so that nothing behind its newline is read, and answers how many bytes came.
@@ -36,18 +26,13 @@ pub fn read_line<R: Read>(reader: &mut R, input: &mut [u8]) -> io::Result<usize>
     ensures taken { IfOk result (λ n. TakesLine (R.remaining reader.old) (R.remaining reader.new) (take n input.new) (length input.new)) }
     ensures on_error { IfErr result (λ e. length input.new ≡ length input.old) }
 {
-    let mut n = 0;
-    while n < input.len() {
-        let Input::Byte(b) = next_byte(reader)? else {
-            return Ok(n);
-        };
-        if b == b'\n' {
-            return Ok(n);
+    for n in 0..input.len() {
+        match next_byte(reader)? {
+            None | Some(b'\n') => return Ok(n),
+            Some(b) => input[n] = b,
         }
-        input[n] = b;
-        n += 1;
     }
-    Ok(n)
+    Ok(input.len())
 }
 
 // Writes the first n bytes to a stream.
@@ -71,10 +56,8 @@ pub fn print_numbers<W: Write>(stream: &mut W, word: &[u8], numbers: &[u32]) -> 
     ensures { OnOk result (Appends (W.contents stream.old) (W.contents stream.new) (word.now ++ flat_map spaced numbers.now)) }
 {
     stream.write_all(word)?;
-    let mut i = 0;
-    while i < numbers.len() {
-        print_number(stream, b" ", numbers[i] as u64)?;
-        i += 1;
+    for n in numbers {
+        print_number(stream, b" ", u64::from(*n))?;
     }
     Ok(())
 }

@@ -1,24 +1,10 @@
-// Words and lines over what stands in a buffer. Each writer asks that its text fits, and answers the place behind it.
+// Fields and lines over what stands in a buffer. Each writer asks that its text fits, and answers the place behind it.
 ghost use Rattle.std.specs.Prelude.{◌≡◌, ◌++◌, ◌+◌, ◌≤◌, length};
 ghost use Rattle.definitions.specs.Number.{over};
 ghost use Rattle.definitions.specs.Listing.{decimal};
 ghost use Rattle.text.specs.Lines.{long_line};
 
-use decimal_text::write::write_decimal;
-
-// A word, byte by byte.
-pub fn write_word(out: &mut [u8], at: usize, word: &[u8]) -> usize
-    requires { at + length word.now ≤ length out.old }
-    ensures value { result ≡ at + length word.now }
-    ensures out_after { out.new ≡ over at word.now out.old }
-{
-    let mut i = 0;
-    while i < word.len() {
-        out[at + i] = word[i];
-        i += 1;
-    }
-    at + word.len()
-}
+use decimal_text::write::{write_decimal, write_text};
 
 // A word and a number.
 pub fn write_field(out: &mut [u8], at: usize, word: &[u8], n: u32) -> usize
@@ -26,7 +12,7 @@ pub fn write_field(out: &mut [u8], at: usize, word: &[u8], n: u32) -> usize
     ensures value { result ≡ at + length (word.now ++ decimal n) }
     ensures out_after { out.new ≡ over at (word.now ++ decimal n) out.old }
 {
-    let place = write_word(out, at, word);
+    let place = write_text(out, at, word);
     write_decimal(out, place, n)
 }
 
@@ -46,5 +32,5 @@ pub fn write_long_line(
 {
     let first = write_field(out, at, word, n);
     let second = write_field(out, first, other, k);
-    write_word(out, second, ending)
+    write_text(out, second, ending)
 }

@@ -5,7 +5,7 @@ ghost use Rattle.number_laws.specs.Bounds.{LawfulDegree};
 ghost use Rattle.polynomial_laws.specs.Degree.{HasDegree};
 ghost use Rattle.fraction_laws.specs.WellFormed.{WellFormed};
 
-use polynomial::{digits, residues};
+use polynomial::residues::Residues;
 
 // The state of word i: q to that power.
 pub fn state_at(m: u32, p: u32, q: u32, i: u32) -> u32
@@ -13,7 +13,7 @@ pub fn state_at(m: u32, p: u32, q: u32, i: u32) -> u32
     requires well_formed { WellFormed m p q }
     ensures { (result ≡ state p q i) × (result < 2 ^ m) }
 {
-    residues::pow_mod(q, i, p, digits::leading_term(m))
+    Residues::modulo(m, p).power(q, i)
 }
 
 const WORD_DIGITS: u32 = 32;
@@ -25,14 +25,12 @@ pub fn word_of(m: u32, p: u32, y: u32) -> u32
     requires y_bound { y < 2 ^ m }
     ensures { result ≡ leading p word_digits y }
 {
-    let lead = digits::leading_term(m);
+    let residues = Residues::modulo(m, p);
     let mut word: u32 = 0;
     let mut rest = y;
-    let mut d: u32 = 0;
-    while d < WORD_DIGITS {
+    for _ in 0..WORD_DIGITS {
         word = word * 2 + (rest * 2 >> m);
-        rest = residues::times_x(rest, p, lead);
-        d += 1;
+        rest = residues.times_x(rest);
     }
     word
 }

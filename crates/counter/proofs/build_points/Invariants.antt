@@ -1,10 +1,6 @@
 -- Invariant: the first i places are filled.
-use Prim.Native.Nat.{◌*◌, ◌-◌, ◌≤◌}
 use Rattle.counting_laws.specs.Building.{Building}
 use Rattle.counter.proofs.build_points.Given as goal
 
 abbrev pub invariant-loop-i : goal.invariant-loop-i
-invariant-loop-i l = Building l.m l.p l.q l.i l.points × (l.i ≤ 8 * l.all)
-
-abbrev pub decreases-loop-i : goal.decreases-loop-i
-decreases-loop-i l = 8 * l.all - l.i
+invariant-loop-i l = Building l.m l.p l.q l.i l.points

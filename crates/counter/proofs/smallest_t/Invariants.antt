@@ -2,7 +2,7 @@
 use mathlib.Core.Path.{◌≡◌}
 use mathlib.Core.Bool.{Bool}
 use mathlib.Core.List.{List}
-use Prim.Native.Nat.{ℕ, ◌-◌, ◌≤◌}
+use Prim.Native.Nat.{ℕ, ◌-◌}
 use Rattle.definitions.specs.Number.{first}
 use Rattle.definitions.specs.Net.{every_share}
 use Rattle.counting_laws.specs.Points.{fills_evenly}
@@ -12,7 +12,4 @@ abbrev pub passes : List ℕ → ℕ → ℕ → ℕ → Bool
 passes points s m t = every_share s (m - t) (fills_evenly m points t)
 
 abbrev pub invariant-loop-t : goal.invariant-loop-t
-invariant-loop-t l = (l.t ≤ l.m) × (first (l.m - l.t) l.t (passes l.points l.s l.m) ≡ first l.m 0 (passes l.points l.s l.m))
-
-abbrev pub decreases-loop-t : goal.decreases-loop-t
-decreases-loop-t l = l.m - l.t
+invariant-loop-t l = first (l.m - l.t) l.t (passes l.points l.s l.m) ≡ first l.m 0 (passes l.points l.s l.m)

@@ -1,50 +1,28 @@
--- `are_lawful` tests entry after entry. Assumes nothing.
-use mathlib.Core.Path.{◌≡◌, refl, ap₂}
-use mathlib.Core.Bool.{Bool}
-use mathlib.Core.List.{List}
-use Prim.Native.Nat.{◌<◌, ◌≤◌}
-use native.Mathlib.Omega.{arith}
-use lib.ListN.{length}
+-- `are_lawful` asks of the entry at each place. Assumes nothing.
+use Rattle.std.proofs.Common.{rules, Bool, ℕ, get_or, refl, ap, ap₂, arith, ◌∙◌}
+use Rattle.std.proofs.lemmas.Iterator.{YieldsList-from_range}
+use Rattle.std.proofs.lemmas.Iterator.Search.{all_from_yields_List}
 use Rattle.definitions.specs.declared.Selection.{Selection}
+use Rattle.definitions.specs.Generator.{lawful_degree}
+use Rattle.definitions.specs.Number.{every}
+use Rattle.definitions.specs.Ranking.{lawful_top}
 use Rattle.definitions.specs.Writing.{entries_of, lawful_degrees, lawful_tops}
-use Rattle.entry_tests.proofs.LoopLaws as laws
-use Rattle.entry_tests.proofs.are_lawful.Invariants.{top_test, degree_test}
+use Rattle.number_laws.specs.Ranges.{every_range}
+use Rattle.writing_laws.specs.RankedFile.{no_entry}
+use Rattle.entry_tests.proofs.ByPlace.{all_pass}
 use Rattle.entry_tests.proofs.are_lawful.Goals as goal
-use Rattle.entry_tests.proofs.are_lawful.Goals.{After-loop-k, At-loop-k, In-loop-k}
-
-abbrev listed : At-loop-k → List Selection
-listed c = let a = c.args in entries_of a.floor a.entries.now
-
--- There are so many entries at every floor.
-count_is : (c : At-loop-k) → c.count-n.result ≡ length (listed c)
-count_is c = c.count-n.ensures c.args.floor
-
-inside : (c : In-loop-k) → c.loop-k.k < length (listed (goal.at.In-loop-k c).At-loop-k)
-inside c = omega (arith, c.loop-k-test.true, count_is (goal.at.In-loop-k c).At-loop-k)
-
-behind : (c : After-loop-k) → length (listed (goal.at.After-loop-k c).At-loop-k) ≤ c.loop-k.k
-behind c = omega (arith, c.loop-k-test.false, count_is (goal.at.After-loop-k c).At-loop-k)
-
-pub loop-k-init : goal.loop-k-init
-loop-k-init c = (refl, refl)
-
-pub entry-list-requires : goal.entry-list-requires
-entry-list-requires c = inside c
-
-pub loop-k-preserved : goal.loop-k-preserved
-loop-k-preserved c =
-    let known = (goal.at.loop-k-preserved c).At-loop-k in
-    let l = c.loop-k in
-    let there = inside (goal.at.loop-k-preserved c).In-loop-k in (
-      laws.all_on degree_test (listed known) l.k l.degrees l.invariant.0 there c.entry-list.ensures c.is_lawful_degree.ensures
-          c.both-degrees.ensures,
-      laws.all_on top_test (listed known) l.k l.tops l.invariant.1 there c.entry-list.ensures c.is_lawful_top.ensures c.both-tops.ensures,
-    )
 
 pub returns : goal.returns
 unfolding lawful_degrees lawful_tops
 returns c =
-    let known = (goal.at.returns c).At-loop-k in
-    let l = c.loop-k in
-    ap₂ (λ (d e : Bool). record { degrees = d; tops = e }) (laws.all_end degree_test (listed known) l.k l.degrees l.invariant.0 (behind c))
-    (laws.all_end top_test (listed known) l.k l.tops l.invariant.1 (behind c))
+    let l = entries_of c.args.floor c.args.entries.now in
+    let n = c.count-n.result in
+    let degree_passes = λ (s : Selection). lawful_degree s.degree in
+    let top_passes = λ (s : Selection). lawful_top s.top in
+    let at = λ (test : Selection → Bool) (k : ℕ). test (get_or l k no_entry) in
+    let whole = λ (test : Selection → Bool). every_range n (at test) ∙ ap (λ (m : ℕ). every m (at test)) (c.count-n.ensures c.args.floor) ∙ all_pass test l in
+    ap₂ (λ (d e : Bool). record { degrees = d; tops = e })
+    (all_from_yields_List (at degree_passes) _ _ _ c.all.ensures.ran (YieldsList-from_range 0 n n refl (omega arith)) (λ k b q called. search rules)
+    ∙ whole degree_passes)
+    (all_from_yields_List (at top_passes) _ _ _ c.all-2.ensures.ran (YieldsList-from_range 0 n n refl (omega arith)) (λ k b q called. search rules)
+    ∙ whole top_passes)

@@ -8,6 +8,7 @@ use Rattle.definitions.specs.Generator.{lawful_degree, lawful_floor}
 use Rattle.number_laws.specs.Bounds.{LawfulDegree, lawful_degree_is, lead_low}
 use Rattle.verdicts.specs.Verdicts.{pair_verdict}
 use Rattle.verdicts.specs.Refusals.{passed_well_formed}
+use Rattle.words.proofs.WritingLaws.{front_written}
 use Rattle.points.proofs.Answering.{wrong_degree, wrong_floor, answered_pair, answered_beyond, answered_written, words_left}
 use Rattle.points.proofs.points.Goals as goal
 use Rattle.points.proofs.points.Goals.{Else-not-is_lawful_degree, Else-not-is_lawful_floor, In_ok-check_pair}
@@ -46,7 +47,7 @@ returns-then-first-last c =
     let all = answered_beyond _ _ _ _ _ _ (lawful (goal.at.returns-then-first-last c).Else-not-is_lawful_degree) (floor_is_lawful (goal.at.returns-then-first-last c).Else-not-is_lawful_floor) (passed (goal.at.returns-then-first-last c).In_ok-check_pair) (omega (arith, c.leading_term-last.ensures)) in record { answer = all.0; slice = all.1 }
 
 pub write-requires : goal.write-requires
-write-requires c = record { lawful_degree = covered (goal.at.write-requires c).Else-not-is_lawful_degree; well_formed = passed_well_formed _ _ _ _ (passed (goal.at.write-requires c).In_ok-check_pair); count_in_bounds = omega (arith, c.smaller-count.ensures) }
+write-requires c = record { lawful_degree = covered (goal.at.write-requires c).Else-not-is_lawful_degree; well_formed = passed_well_formed _ _ _ _ (passed (goal.at.write-requires c).In_ok-check_pair) }
 
 pub returns-in_err-check_pair : goal.returns-in_err-check_pair
 returns-in_err-check_pair c =
@@ -61,5 +62,5 @@ returns c =
     let out = c.args.out.now in
     let all = answered_written _ _ _ _ _ _ (lawful known) (floor_is_lawful (goal.at.returns c).Else-not-is_lawful_floor) (passed (goal.at.returns c).In_ok-check_pair)
     (omega (arith, lead))
-    (c.smaller-count.ensures ∙ words_left _ _ _ out lead (omega (arith, lead, lead_low (covered known))) c.if-first-last.false)
-    c.write.ensures in record { answer = all.0; slice = all.1 }
+    (c.min-count.ensures ∙ words_left _ _ _ out lead (omega (arith, lead, lead_low (covered known))) c.if-first-last.false)
+    (rw c.write.ensures (front_written _ _ _ _ out (omega (arith, c.min-count.ensures)))) in record { answer = all.0; slice = all.1 }

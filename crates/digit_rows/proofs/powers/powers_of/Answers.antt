@@ -1,6 +1,5 @@
 -- `powers::powers_of` meets its contract: before each turn the first j elements are the powers, and all are residues. Assumes nothing.
 use mathlib.Core.Path.{refl, ◌∙◌}
-use Prim.Native.Nat.{◌-◌}
 use native.Mathlib.Omega.{arith}
 use lib.ListN.{length-set}
 use Rattle.definitions.specs.Generator.{largest_degree}
@@ -8,23 +7,13 @@ use Rattle.digit_rows.proofs.PowerLaws.{powers_start, residues_start, powers_mor
 use Rattle.digit_rows.proofs.powers.powers_of.Goals as goal
 
 pub loop-j-init : goal.loop-j-init
-loop-j-init c = (omega arith, omega arith, refl, powers_start c.requires.modulus c.args.q, residues_start c.requires.modulus largest_degree)
-
-pub mul_mod-requires : goal.mul_mod-requires
-mul_mod-requires c =
-    let l = c.loop-j in record { modulus = c.requires.modulus; b_lt_lead = l.invariant.4 (l.j - 1) }
+loop-j-init c = (refl, powers_start c.args.residues.modulus c.args.q, residues_start c.args.residues.modulus largest_degree)
 
 pub loop-j-preserved : goal.loop-j-preserved
 loop-j-preserved c =
     let l = c.loop-j in
-    let next = c.mul_mod in (
-      omega arith,
-      omega (arith, c.requires.n_le_largest_degree),
-      length-set l.powers l.j next.result ∙ l.invariant.2,
-      powers_more c.requires.modulus c.args.q l.j next.result l.powers l.invariant.0 (omega (arith, c.requires.n_le_largest_degree)) next.ensures.0 l.invariant.3,
-      residues_more c.requires.modulus l.j next.result l.powers (omega (arith, c.requires.n_le_largest_degree)) next.ensures.1 l.invariant.4,
+    let next = c.product in (
+      length-set l.powers l.j next.result ∙ l.invariant.0,
+      powers_more c.args.residues.modulus c.args.q l.j next.result l.powers (omega arith) (omega (arith, c.requires)) next.ensures.0 l.invariant.1,
+      residues_more c.args.residues.modulus l.j next.result l.powers (omega (arith, c.requires)) next.ensures.1 l.invariant.2,
     )
-
-pub returns : goal.returns
-returns c =
-    let l = c.loop-j in record { powers = λ i b. l.invariant.3 i (omega arith); residues = l.invariant.4 }

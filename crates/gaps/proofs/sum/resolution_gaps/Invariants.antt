@@ -1,11 +1,8 @@
 use mathlib.Core.Path.{◌≡◌}
-use Prim.Native.Nat.{◌-◌, ◌/◌, ◌≤◌}
+use Prim.Native.Nat.{◌-◌}
 use Rattle.definitions.specs.Number.{sum}
 use Rattle.gap_laws.specs.Resolution.{dimension_gap}
 use Rattle.gaps.proofs.sum.resolution_gaps.Given as goal
 
 abbrev pub invariant-loop-digits : goal.invariant-loop-digits
-invariant-loop-digits l = (l.digits ≤ l.degree / 2) × (l.gaps ≡ sum l.digits (dimension_gap l.degree l.p l.q))
-
-abbrev pub decreases-loop-digits : goal.decreases-loop-digits
-decreases-loop-digits l = l.degree / 2 - l.digits
+invariant-loop-digits l = l.gaps ≡ sum (l.digits - 1) (dimension_gap l.degree l.p l.q)

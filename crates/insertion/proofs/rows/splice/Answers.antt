@@ -1,10 +1,9 @@
--- `rows::splice` puts a row in: a shift makes the room, and the row is written there. Assumes nothing.
-use native.Mathlib.Omega.{arith}
+-- `rows::splice` puts a row in by two copies. Assumes nothing.
+use Rattle.std.proofs.Common.{arith}
 use Rattle.insertion.proofs.RowLaws as laws
 use Rattle.insertion.proofs.rows.splice.Goals as goal
 
 pub returns : goal.returns
 returns c =
     let g = c.args in
-    rw (c.write_row.ensures, c.shift.ensures)
-    (laws.shifted_written g.from g.to g.width g.row.now g.out.now (omega arith) (omega arith))
+    laws.row_put g.from g.to g.width g.row.now g.out.now (omega arith) (omega arith) (omega arith) c.copy_within.ensures.after c.copy_from_slice.ensures.after

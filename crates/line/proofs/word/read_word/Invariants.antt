@@ -1,13 +1,10 @@
--- The invariant: the value has at most as many digits as were read, and the digits that are left make of it what the word is. The measure is how many
--- bytes are left.
-use mathlib.Core.Path.{◌≡◌}
-use Prim.Native.Nat.{◌-◌, ◌^◌, ◌≤◌, ◌<◌}
-use lib.Seq.{slice}
+-- The invariant: the value has at most as many digits as were read, and the digits that are left make of it what the word is.
+use Rattle.std.proofs.Common.{◌≡◌, ◌^◌, ◌<◌, drop}
 use Rattle.line.specs.Word.{word_of, digits_from}
 use Rattle.line.proofs.word.read_word.Given as goal
 
-abbrev pub invariant-loop-i : goal.invariant-loop-i
-invariant-loop-i l = (l.from ≤ l.i) × (l.i ≤ l.to) × (l.value < 10 ^ (l.i - l.from)) × (digits_from l.value (slice l.i l.to l.s) ≡ word_of (slice l.from l.to l.s))
-
-abbrev pub decreases-loop-i : goal.decreases-loop-i
-decreases-loop-i l = l.to - l.i
+abbrev pub invariant-loop-b : goal.invariant-loop-b
+invariant-loop-b l = record {
+  few : l.value < 10 ^ l.b-index;
+  same : digits_from l.value (drop l.b-index l.word) ≡ word_of l.word;
+}

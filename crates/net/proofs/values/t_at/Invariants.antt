@@ -1,12 +1,9 @@
 use mathlib.Core.Path.{◌≡◌}
-use Prim.Native.Nat.{◌-◌, ◌^◌, ◌≤◌}
+use Prim.Native.Nat.{◌+◌, ◌-◌, ◌^◌, ◌≤◌}
 use Rattle.definitions.specs.Net.{t_value}
 use Rattle.digit_rows.specs.Table.{Tabled}
 use Rattle.net.proofs.values.t_at.Given as goal
 
 abbrev pub invariant-loop-dimension : goal.invariant-loop-dimension
 invariant-loop-dimension l =
-    (1 ≤ l.dimension) × (l.dimension ≤ l.s) × (l.value ≡ t_value l.degree l.p l.q l.dimension) × Tabled l.p l.q (2 ^ l.degree) l.degree l.dimension l.table
-
-abbrev pub decreases-loop-dimension : goal.decreases-loop-dimension
-decreases-loop-dimension l = l.s - l.dimension
+    (l.dimension ≤ l.s + 1) × (l.value ≡ t_value l.degree l.p l.q (l.dimension - 1)) × Tabled l.p l.q (2 ^ l.degree) l.degree (l.dimension - 1) l.table

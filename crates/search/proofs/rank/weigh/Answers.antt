@@ -3,10 +3,8 @@ use Rattle.std.proofs.Common.{ℕ, List, ◌+◌, ◌<◌, sym, ap, ◌∙◌, a
 use native.Mathlib.Nat.{add-sub_cancel}
 use lib.ListN.{set, length-set}
 use Rattle.definitions.specs.Net.{t_value}
-use Rattle.number_laws.specs.Bounds.{lead_is}
 use Rattle.order_laws.specs.Accepted.{accepted_is}
 use Rattle.quotient_laws.specs.Plane.{t_value_linear}
-use Rattle.polynomial.specs.Modulus.{lawful_modulus}
 use Rattle.net.specs.Bound.{stop_accepted}
 use Rattle.row_places.specs.Places.{values_end}
 use Rattle.ranking_laws.specs.Steps.{begun}
@@ -17,14 +15,8 @@ use Rattle.search.proofs.rank.weigh.Goals as goal
 use Rattle.search.proofs.rank.weigh.Goals.{After-next_t-value}
 
 -- ---- with coordinate 1: t(2) is 0, since the quotients are linear
-pub add_coordinate-requires-clause-modulus : goal.add_coordinate-requires-clause-modulus
-add_coordinate-requires-clause-modulus c =
-    let h = c.requires.searching.framed.lawful.degree in lawful_modulus h c.requires.well_formed.degree_p (lead_is h)
-
 pub add_coordinate-requires-clause-tabled : goal.add_coordinate-requires-clause-tabled
-add_coordinate-requires-clause-tabled c =
-    let h = c.requires.searching.framed.lawful.degree in
-    c.first_coordinate-table.ensures.table (lawful_modulus h c.requires.well_formed.degree_p (lead_is h)) c.args.q c.args.f.list.degree
+add_coordinate-requires-clause-tabled c = c.first_coordinate-table.ensures.table c.modulo.result.modulus c.args.q c.args.f.list.degree
 
 pub loop-s-init : goal.loop-s-init
 loop-s-init c =
@@ -37,7 +29,7 @@ loop-s-init c =
         is = begun_first a.f.list a.p a.q a.row.now c.requires.row_len;
         last = sym ((t_value_linear c.requires.well_formed).0 ((accepted_is _ _ _).0 c.requires.q_value).linear);
       },
-      rw (lead_is lawful.degree) at c.add_coordinate.ensures,
+      rw (c.modulo.ensures.0, c.modulo.ensures.1) at c.add_coordinate.ensures,
     )
 
 -- ---- in the loop
@@ -51,7 +43,7 @@ abbrev row : After-next_t-value → List ℕ
 row c = set c.loop-s.row c.loop-s.s c.next_t-value.result
 
 inside : (c : After-next_t-value) → c.loop-s.s < values_end c.args.f.list
-inside c = omega (arith, c.loop-s-test.true, c.values_end-end.ensures)
+inside c = omega (arith, c.values_end-end.ensures)
 
 more : (c : After-next_t-value) → let a = c.args in Written a.f.list a.p a.q (row c) c.next_t-value.result (c.loop-s.s + 1)
 more c =
@@ -97,4 +89,4 @@ returns c =
     let a = c.args in
     let known = c.loop-s.invariant.0 in
     laws.open_known c.requires.searching a.p a.q c.loop-s.row c.loop-s.s known.from (omega (arith, known.to)) known.is known.sized
-    (omega (arith, known.to, c.loop-s-test.false, c.values_end-end.ensures))
+    (omega (arith, known.to, c.values_end-end.ensures))

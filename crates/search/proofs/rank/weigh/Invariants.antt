@@ -1,5 +1,4 @@
--- The invariant: the first s numbers of the row are written, the last t-value is t(s - 1), and the table has s - 1 coordinates. The measure is what is
--- left up to t(T).
+-- The invariant: the first s numbers of the row are written, the last t-value is t(s - 1), and the table has s - 1 coordinates.
 use Rattle.std.proofs.Common.{◌≡◌, List, ℕ, ◌-◌, ◌^◌, ◌≤◌, length, take}
 use Rattle.definitions.specs.declared.Selection.{Selection}
 use Rattle.definitions.specs.Net.{t_value}
@@ -23,6 +22,3 @@ HasCoordinates l p q table s = Tabled p q (2 ^ l.degree) l.degree (s - 1) table
 
 abbrev pub invariant-loop-s : goal.invariant-loop-s
 invariant-loop-s l = Written l.f.list l.p l.q l.row l.value l.s × HasCoordinates l.f.list l.p l.q l.table l.s
-
-abbrev pub decreases-loop-s : goal.decreases-loop-s
-decreases-loop-s l = l.end - l.s

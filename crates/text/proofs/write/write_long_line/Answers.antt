@@ -21,10 +21,10 @@ write_field-second-requires c =
     second_room a.word.now a.n a.other.now a.k a.ending.now a.at a.out.now (room (goal.at.write_field-second-requires c).After-write_field-first)
     c.write_field-first.ensures.value c.write_field-first.ensures.out_after
 
-pub write_word-requires : goal.write_word-requires
-write_word-requires c =
+pub write_text-requires : goal.write_text-requires
+write_text-requires c =
     let a = c.args in
-    ending_room a.word.now a.n a.other.now a.k a.ending.now a.at a.out.now (room (goal.at.write_word-requires c).After-write_field-first)
+    ending_room a.word.now a.n a.other.now a.k a.ending.now a.at a.out.now (room (goal.at.write_text-requires c).After-write_field-first)
     c.write_field-first.ensures.value c.write_field-first.ensures.out_after c.write_field-second.ensures.value c.write_field-second.ensures.out_after
 
 pub returns : goal.returns
@@ -32,4 +32,4 @@ returns c =
     let a = c.args in
     let all = long_end a.word.now a.n a.other.now a.k a.ending.now a.at a.out.now (room (goal.at.returns c).After-write_field-first)
     c.write_field-first.ensures.value c.write_field-first.ensures.out_after c.write_field-second.ensures.value c.write_field-second.ensures.out_after
-    c.write_word.ensures.value c.write_word.ensures.out_after in record { value = all.0; out_after = all.1 }
+    c.write_text.ensures.value c.write_text.ensures.out_after in record { value = all.0; out_after = all.1 }
