@@ -12,14 +12,9 @@ ghost use Rattle.fraction_laws.specs.WellFormed.{WellFormed};
 ghost use Rattle.counting_laws.specs.Shapes.{every_shape};
 ghost use Rattle.counting_laws.specs.Points.{Digits, Built, Begun, fills_evenly};
 
-<<<<<<< HEAD
 use definitions::Refusal;
-use polynomial::{digits, residues};
-=======
-use definitions::{Refusal, Uniformity};
 use polynomial::digits;
 use polynomial::residues::Residues;
->>>>>>> origin/main
 use word_tables::word;
 
 // The t-value of a pair, or refusal 1, for a degree that is not 2 to 8, 2 or 3.

@@ -20,26 +20,32 @@ fn refuse(refusal: Refusal) -> Printing
 pub(crate) fn decide(asked: Asked) -> Printing
     ensures { result ≡ printing_of (Some asked) }
 {
-    if asked.size > listing::LARGEST_SIZE {
+    let Asked {
+        degree,
+        top,
+        size,
+        floor,
+    } = asked;
+    if size > listing::LARGEST_SIZE {
         return Printing::Refused(UNREADABLE);
     }
-    if !limits::is_lawful_degree(asked.degree) {
+    if !limits::is_lawful_degree(degree) {
         return refuse(Refusal::WrongDegree);
     }
-    if !limits::is_lawful_top(asked.top) {
+    if !limits::is_lawful_top(top) {
         return refuse(Refusal::WrongDimension);
     }
-    if !limits::is_lawful_floor(asked.floor) {
+    if !limits::is_lawful_floor(floor) {
         return refuse(Refusal::WrongFloor);
     }
-    if asked.size == 0 {
+    if size == 0 {
         return refuse(Refusal::ShortSlice);
     }
     let list = Selection {
-        degree: asked.degree,
-        top: asked.top,
-        floor: asked.floor,
+        degree,
+        top,
+        floor,
         gaps: false,
     };
-    Printing::Whole(list, asked.size)
+    Printing::Whole(list, size)
 }
