@@ -9,9 +9,7 @@ pub fn spread(table: &mut [u32], base: usize, n: usize, value: u32)
     requires { base + n + n ≤ length table.old }
     ensures { Spread base n value table.old table.new }
 {
-    let mut i: usize = 0;
-    while i < n {
+    for i in 0..n {
         table[base + n + i] = table[base + i] ^ value;
-        i += 1;
     }
 }

@@ -13,17 +13,12 @@ use lib.Seq.{get_or-set_same, get_or-set_other}
 use borrow.Author.Tests.{eqb-true, eq-eqb, ne_eqb}
 use Rattle.definitions.specs.Number.{largest}
 use Rattle.definitions.specs.Polynomial.{rem}
-use Rattle.number_laws.specs.Bounds.{Between}
 use Rattle.number_laws.specs.Largest.{largest_stop, largest_on, largest_to, largest_passes, largest_ext, largest_wider}
 use Rattle.number_laws.specs.Lists.{set_each}
 use Rattle.polynomial_laws.specs.Division.{rem_double}
 use Rattle.polynomial.specs.Modulus.{Modulus, modulus_positive, residue_small}
 use Rattle.order_laws.specs.Giant.{baby_step}
 use Rattle.baby_steps.specs.Chains.{baby_steps, holds, holds_low, Chained, BabySteps}
-
--- Low digits are a place of `first`.
-pub low_fits : {count : ℕ} → Between 1 baby_steps count → (v : ℕ) → bit_and v (count - 1) < baby_steps
-low_fits {count} b v = omega (arith, b.low, b.high, and_le_r v (count - 1))
 
 pub holds_out : (value : List ℕ) (w j : ℕ) → holds value w (suc j) ≡ true → get_or value j 0 ≡ w
 unfolding holds

@@ -4,18 +4,18 @@ use mathlib.Core.Path.{◌≡◌, refl, sym, ap, ◌∙◌, subst}
 use mathlib.Core.Bool.{Bool}
 use mathlib.Core.List.{List, [], ◌++◌, map}
 use Prim.Native.Nat.{ℕ, suc, ◌+◌, ◌-◌, ◌*◌, ◌^◌, ◌≤◌, ◌<◌}
-use native.Mathlib.Nat.{add-zero, add_assoc, suc-mul, zero-mul, mul-le-mul_right}
+use native.Mathlib.Nat.{add-mul, suc-mul, mul-le-mul_right}
 use native.Mathlib.Numerals.{add-one}
 use native.Mathlib.Omega.{arith}
-use lib.ListN.{length, take, drop, get_or, length-append, length-take, drop_of_length-le}
-use lib.Seq.{drop-cons, drop-drop, get_or-take, get_or-drop}
+use lib.ListN.{length-drop, length, take, drop, get_or, length-append, drop_of_length-le}
+use lib.Seq.{take_all, drop-cons, get_or-drop}
 use Rattle.definitions.specs.Number.{bit, join, over}
 use Rattle.definitions.specs.Ranking.{least_top, ranks_from}
 use Rattle.definitions.specs.Catalogue.{number_size, row_size}
 use Rattle.definitions.specs.Writing.{bytes_of, row_bytes}
 use Rattle.number_laws.specs.Bounds.{LawfulDegree, LawfulTop}
 use Rattle.slice_laws.specs.Over.{length_over, over_nothing, over_append, over_then}
-use Rattle.page_laws.specs.Rows.{rows_of, length_rows, row_at_lem, drop_take}
+use Rattle.page_laws.specs.Rows.{rows_of, length_rows, row_at_lem}
 use Rattle.catalogue_laws.specs.Sizes.{row_size_is}
 use Rattle.catalogue_laws.specs.Bytes.{bytes_length}
 use Rattle.catalogue_laws.specs.Written.{LawfulRow, LawfulRows, row_length}
@@ -23,68 +23,53 @@ use Rattle.catalogue_laws.specs.Written as written
 
 -- ---- one row
 
-module _ (m top : ℕ) (gaps : Bool) (from : ℕ) (slice : List ℕ) (tall : LawfulTop top) where
-  abbrev row : List ℕ
-  row = take (suc top + bit gaps) (drop from slice)
+module _ (m top : ℕ) (gaps : Bool) (row : List ℕ) (tall : LawfulTop top) (lawful : LawfulRow m top gaps row) where
+  -- The numbers that rank the row, as the code has them; each fits a byte.
+  abbrev ranks : List ℕ
+  ranks = take (length row - ranks_from) (drop ranks_from row)
 
-  number_is : (k : ℕ) → k < suc top + bit gaps → get_or row k 0 ≡ get_or slice (from + k) 0
-  number_is k h = get_or-take (suc top + bit gaps) (drop from slice) k 0 (omega arith) ∙ get_or-drop from slice k 0
+  ranks_are : ranks ≡ drop ranks_from row
+  ranks_are = take_all (length row - ranks_from) (drop ranks_from row) (omega (arith, length-drop ranks_from row))
 
-  first_is : get_or row 0 0 ≡ get_or slice from 0
-  first_is = number_is 0 (omega arith) ∙ rw add-zero
+  pub ranks_length : length ranks ≡ length row - ranks_from
+  ranks_length = ap length ranks_are ∙ length-drop ranks_from row
 
-  values_are : drop ranks_from row ≡ take (suc top - least_top + bit gaps) (drop (from + ranks_from) slice)
-  values_are =
-      let e : suc top + bit gaps ≡ ranks_from + (suc top - least_top + bit gaps) = omega (arith, tall.low) in
-      ap (λ (n : ℕ). drop ranks_from (take n (drop from slice))) e
-      ∙ drop_take ranks_from (suc top - least_top + bit gaps) (drop from slice)
-      ∙ ap (take (suc top - least_top + bit gaps)) (drop-drop ranks_from from slice)
+  pub ranks_small : LawfulDegree m → (k : ℕ) → k < length ranks → get_or ranks k 0 < 256
+  ranks_small degree k l =
+      let small = written.ranks_small m top gaps row degree lawful (ranks_from + k) (omega arith) (omega (arith, ranks_length)) in
+      rw (ranks_are, get_or-drop) small
 
-  module _ (lawful : LawfulRow m top gaps row) where
-    -- p has its leading term, and each number that ranks the row fits a byte.
-    pub lead_within : 2 ^ m ≤ get_or slice from 0
-    lead_within = omega (arith, lawful.p_least, first_is)
+  -- The parts of the row as the code has them.
+  module _ {w lead : ℕ} (sized : w ≡ number_size m) (lead_is : lead ≡ 2 ^ m) where
+    abbrev low : List ℕ
+    low = bytes_of w (get_or row 0 0 - lead)
 
-    pub ranks_small : LawfulDegree m → (k : ℕ) → k < suc top - least_top + bit gaps → get_or slice (from + ranks_from + k) 0 < 256
-    ranks_small degree k l =
-        let small = written.ranks_small m top gaps row degree lawful (ranks_from + k) (omega arith) (omega (arith, lawful.width, tall.low)) in
-        let e : get_or row (ranks_from + k) 0 ≡ get_or slice (from + ranks_from + k) 0 =
-        number_is (ranks_from + k) (omega (arith, tall.low)) ∙ ap (λ (n : ℕ). get_or slice n 0) (sym (add_assoc from ranks_from k)) in
-        omega arith
+    abbrev second : List ℕ
+    second = bytes_of w (get_or row 1 0)
 
-    module _ {w lead values : ℕ} (sized : w ≡ number_size m) (lead_is : lead ≡ 2 ^ m) (counted : values ≡ suc top - least_top + bit gaps) where
-      -- The parts of the row as the code has them.
-      abbrev low : List ℕ
-      low = bytes_of w (get_or slice from 0 - lead)
+    abbrev third : List ℕ
+    third = bytes_of w (get_or row 2 0)
 
-      abbrev second : List ℕ
-      second = bytes_of w (get_or slice (from + 1) 0)
+    parts_are : low ++ second ++ third ++ ranks ≡ row_bytes m row
+    unfolding row_bytes
+    parts_are = rw (sized, lead_is, ranks_are)
 
-      abbrev third : List ℕ
-      third = bytes_of w (get_or slice (from + 2) 0)
-
-      abbrev ranks : List ℕ
-      ranks = take values (drop (from + ranks_from) slice)
-
-      parts_are : low ++ second ++ third ++ ranks ≡ row_bytes m row
-      unfolding row_bytes
-      parts_are = rw (sized, lead_is, counted, first_is, number_is 1 (omega (arith, tall.low)), number_is 2 (omega (arith, tall.low)), values_are)
-
-      pub row_written : (at : ℕ) (file : List ℕ) {one two three exit : List ℕ} → at + row_size m top gaps ≤ length file → one ≡ over at low file
-          → two ≡ over (at + w) second one → three ≡ over (at + 2 * w) third two → exit ≡ over (at + 3 * w) ranks three
-          → exit ≡ over at (row_bytes m row) file
-      row_written at file room e f g h =
-          let size = row_size_is m top gaps in
-          let low-long = bytes_length w (get_or slice from 0 - lead) in
-          let second-long = bytes_length w (get_or slice (from + 1) 0) in
-          let third-long = bytes_length w (get_or slice (from + 2) 0) in
-          let values-long = length-take values (drop (from + ranks_from) slice) in
-          let two-long = length-append low second in
-          let three-long = length-append (low ++ second) third in
-          let two-are = (over_then at low second file (omega arith) (omega arith) e refl f).1 in
-          let three-are = (over_then at (low ++ second) third file (omega arith) (omega arith) two-are refl g).1 in
-          let all_are = (over_then at (low ++ second ++ third) ranks file (omega arith) (omega arith) three-are refl h).1 in
-          all_are ∙ ap (λ (v : List ℕ). over at v file) parts_are
+    pub row_written : (at : ℕ) (file : List ℕ) {one two three exit : List ℕ} → at + row_size m top gaps ≤ length file → one ≡ over at low file
+        → two ≡ over (at + w) second one → three ≡ over (at + 2 * w) third two → exit ≡ over (at + 3 * w) ranks three
+        → exit ≡ over at (row_bytes m row) file
+    row_written at file room e f g h =
+        let size = row_size_is m top gaps in
+        let low-long = bytes_length w (get_or row 0 0 - lead) in
+        let second-long = bytes_length w (get_or row 1 0) in
+        let third-long = bytes_length w (get_or row 2 0) in
+        let values-long = ranks_length in
+        let width = lawful.width in
+        let two-long = length-append low second in
+        let three-long = length-append (low ++ second) third in
+        let two-are = (over_then at low second file (omega arith) (omega arith) e refl f).1 in
+        let three-are = (over_then at (low ++ second) third file (omega arith) (omega arith) two-are refl g).1 in
+        let all_are = (over_then at (low ++ second ++ third) ranks file (omega arith) (omega arith) three-are refl h).1 in
+        all_are ∙ ap (λ (v : List ℕ). over at v file) parts_are
 
 -- ---- many rows
 
@@ -102,15 +87,10 @@ module _ (m top : ℕ) (gaps : Bool) (at count : ℕ) (slice file₀ : List ℕ)
     pub kept : length file ≡ length file₀
     pub whole : over (at + k * row_size m top gaps) (bytes_from k) file ≡ over at (bytes_from 0) file₀
 
-  -- A turn of the loop, with the code's size and width of a row: what is asked for row k, its numbers and room for its bytes; and what its bytes make.
+  -- A turn of the loop, with the code's size and width of a row: row k is lawful, and what its bytes make.
   pub record Turn (file : List ℕ) (k size width : ℕ) : Type 0 where
-    pub within : k * width + (suc top + bit gaps) ≤ length slice
-    pub lawful : LawfulRow m top gaps (take (suc top + bit gaps) (drop (k * width) slice))
-    pub room : at + k * size + row_size m top gaps ≤ length file
-    pub next : {exit : List ℕ} → exit ≡ over (at + k * size) (row_bytes m (take (suc top + bit gaps) (drop (k * width) slice))) file → RowsLeft exit (k + 1)
-
-  pub rows_start : RowsLeft file₀ 0
-  rows_start = record { few = omega arith; kept = refl; whole = rw (zero-mul, add-zero) }
+    pub lawful : LawfulRow m top gaps (take ((k + 1) * width - k * width) (drop (k * width) slice))
+    pub next : {exit : List ℕ} → exit ≡ over (at + k * size) (row_bytes m (take ((k + 1) * width - k * width) (drop (k * width) slice))) file → RowsLeft exit (k + 1)
 
   pub rows_end : {file : List ℕ} {k : ℕ} → RowsLeft file k → count ≤ k → file ≡ over at (bytes_from 0) file₀
   rows_end {file} {k} h l =
@@ -149,8 +129,7 @@ module _ (m top : ℕ) (gaps : Bool) (at count : ℕ) (slice file₀ : List ℕ)
                 (ap (λ (v : List ℕ). over place v file) (sym bytes_first) ∙ h.whole);
           }
 
-      pub rows_turn : {size width : ℕ} → size ≡ row_size m top gaps → width ≡ suc top + bit gaps → count * (suc top + bit gaps) ≤ length slice
-          → Turn file k size width
-      rows_turn sized wide within =
-          let narrow = mul-le-mul_right {m = suc k} {n = count} (suc top + bit gaps) l in
-          rw (sized, wide) (record { within = omega arith; lawful = row_lawful; room = within_file; next = rows_next })
+      pub rows_turn : {size width : ℕ} → size ≡ row_size m top gaps → width ≡ suc top + bit gaps → Turn file k size width
+      rows_turn sized wide =
+          let one : (k + 1) * (suc top + bit gaps) - k * (suc top + bit gaps) ≡ suc top + bit gaps = omega (arith, add-mul k 1 (suc top + bit gaps)) in
+          rw (sized, wide) (record { lawful = rw one row_lawful; next = λ e. rows_next (rw one at e) })

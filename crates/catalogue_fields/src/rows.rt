@@ -1,5 +1,5 @@
 // The rows of a body, written over a buffer.
-ghost use Rattle.std.specs.Prelude.{◌≡◌, map, ◌+◌, ◌*◌, ◌≤◌, length, take, drop};
+ghost use Rattle.std.specs.Prelude.{◌≡◌, map, ◌+◌, ◌*◌, ◌≤◌, length};
 ghost use Rattle.definitions.specs.Number.{join, over};
 ghost use Rattle.definitions.specs.Ranking.{row_width};
 ghost use Rattle.definitions.specs.Catalogue.{row_size};
@@ -13,27 +13,18 @@ use catalogue_numbers::{write_bytes, write_number};
 use definitions::Selection;
 use row_places::width_of;
 
-// The row whose numbers stand at a place of a slice: p without its leading term, q and the step, then the numbers that rank it.
-fn write_row(file: &mut [u8], at: usize, list: Selection, rows: &[u32], from: usize)
+// A row: p without its leading term, q and the step, then the numbers that rank it.
+fn write_row(file: &mut [u8], at: usize, list: Selection, row: &[u32])
     requires lawful_degree { LawfulDegree list.degree × LawfulTop list.top }
-    requires list_in_bounds { from + row_width list ≤ length rows.now }
-    requires lawful_row { LawfulRow list.degree list.top list.gaps (take (row_width list) (drop from rows.now)) }
+    requires lawful_row { LawfulRow list.degree list.top list.gaps row.now }
     requires gaps_in_bounds { at + row_size list.degree list.top list.gaps ≤ length file.old }
-    ensures { file.new ≡ over at (row_bytes list.degree (take (row_width list) (drop from rows.now))) file.old }
+    ensures { file.new ≡ over at (row_bytes list.degree row.now) file.old }
 {
-    let degree = list.degree;
-    let width = sizes::number_size(degree);
-    write_number(file, at, width, rows[from] - (1 << degree));
-    write_number(file, at + width, width, rows[from + 1]);
-    write_number(file, at + 2 * width, width, rows[from + 2]);
-    let ranks = sizes::value_count(list.top) + list.gaps as usize;
-    write_bytes(
-        file,
-        at + sizes::NUMBERS * width,
-        rows,
-        from + sizes::NUMBERS,
-        ranks,
-    );
+    let width = sizes::number_size(list.degree);
+    write_number(file, at, width, row[0] - (1 << list.degree));
+    write_number(file, at + width, width, row[1]);
+    write_number(file, at + 2 * width, width, row[2]);
+    write_bytes(file, at + sizes::NUMBERS * width, &row[sizes::NUMBERS..]);
 }
 
 // The first `count` rows of a slice, one behind the other.
@@ -47,9 +38,7 @@ pub fn write_rows(file: &mut [u8], at: usize, list: Selection, rows: &[u32], cou
 {
     let size = sizes::row_size(list.degree, list.top, list.gaps);
     let width = width_of(list);
-    let mut k = 0;
-    while k < count {
-        write_row(file, at + k * size, list, rows, k * width);
-        k += 1;
+    for k in 0..count {
+        write_row(file, at + k * size, list, &rows[k * width..(k + 1) * width]);
     }
 }

@@ -15,7 +15,7 @@ use Rattle.catalogue_laws.specs.Sizes.{count_most}
 use Rattle.catalogue_laws.specs.Files.{lists_few}
 use Rattle.writing_laws.specs.Few.{ranked_count_fits}
 use Rattle.writing_laws.specs.RankedFile.{LawfulEntries, no_entry, lists_lawful}
-use Rattle.writing_laws.specs.Turns.{lists, Filing, filing_start, filing_turn, filing_end, entry_now_lem, body_fits, entry_before, place_small}
+use Rattle.writing_laws.specs.Turns.{Filing, filing_start, filing_turn, entry_now_lem, body_fits, entry_before, place_small}
 use Rattle.search.specs.Frame.{LawfulList, width_most}
 
 -- ---- one list

@@ -56,11 +56,9 @@ pub fn write_file(floor: u32, entries: &[u32], contents: usize, file: &mut [u8])
     file[0] = n as u8;
     let mut place = sizes::FIRST_ENTRY;
     let mut at = contents;
-    let mut k = 0;
-    while k < n {
+    for k in 0..n {
         let list = entry(floor, entries, k);
         at = write_list(list, rows, file, place, at);
         place += sizes::entry_size(list.degree);
-        k += 1;
     }
 }

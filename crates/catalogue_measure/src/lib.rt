@@ -37,12 +37,10 @@ pub fn take_measure(floor: u32, entries: &[u32]) -> Measure
     let n = count(entries);
     let mut contents = sizes::FIRST_ENTRY;
     let mut bodies = 0;
-    let mut k = 0;
-    while k < n {
+    for k in 0..n {
         let list = entry(floor, entries, k);
         contents += sizes::entry_size(list.degree);
         bodies += body_size(list);
-        k += 1;
     }
     Measure {
         contents,

@@ -3,7 +3,7 @@
 use mathlib.Core.Path.{◌≡◌, refl, sym, ap, ◌∙◌}
 use mathlib.Core.Bool.{Bool, false}
 use mathlib.Core.List.{List}
-use Prim.Native.Nat.{ℕ, suc, ◌+◌, ◌-◌, ◌/◌, ◌%◌, ◌^◌, ◌≤◌, ◌<◌}
+use Prim.Native.Nat.{ℕ, suc, ◌+◌, ◌%◌, ◌^◌, ◌≤◌, ◌<◌}
 use native.Mathlib.Omega.{arith}
 use lib.Pow.{pow_pos, pow-add}
 use borrow.Author.Tests.{eq-eqb, ne_eqb}
@@ -28,10 +28,6 @@ Squares p lead t = Maps (λ a. rem (prod a a) p) lead t
 abbrev pub Products : ℕ → ℕ → ℕ → List ℕ → Type 0
 Products p q lead t = Maps (λ a. rem (prod q a) p) lead t
 
--- What the table of squares asks, at the leading term.
-pub squares_asked : {m p lead : ℕ} → LawfulDegree m → HasDegree p m → lead ≡ 2 ^ m → Modulus p lead × (lead ≤ 2 ^ largest_degree)
-squares_asked h d e = (lawful_modulus h d e, rw e (lead_high h))
-
 module _ {p lead : ℕ} (h : Modulus p lead) (t : List ℕ) {v r : ℕ} (residue : v < lead) (is : r ≡ image_of t v) where
   pub squared : Squares p lead t → (r ≡ rem (prod v v) p) × (r < lead)
   squared squares =
@@ -43,9 +39,9 @@ module _ {p lead : ℕ} (h : Modulus p lead) (t : List ℕ) {v r : ℕ} (residue
       let e : r ≡ rem (prod v q) p = is ∙ products v residue ∙ rw (prod_comm q v) in
       (e, rw e (residue_lt h (prod v q)))
 
--- A power of q at N / r, as the loop over the divisors takes it.
-pub power_state : (m p q : ℕ) → 2 ≤ p → {lead : ℕ} → lead ≡ 2 ^ m → (r v : ℕ) → v ≡ rem (power q ((lead - 1) / r)) p → v ≡ state p q (period m / r)
-power_state m p q big e r v is = rw (state_power p big q, ← e) is
+-- A power of q, as the test over the divisors takes it.
+pub power_state : (p q : ℕ) → 2 ≤ p → (e v : ℕ) → v ≡ rem (power q e) p → v ≡ state p q e
+power_state p q big e v is = rw (state_power p big q) is
 
 -- x squared i times.
 pub record Squared (m p i v : ℕ) : Type 0 where

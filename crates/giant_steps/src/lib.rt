@@ -8,9 +8,9 @@ ghost use Rattle.definitions.specs.Generator.{primitive, step};
 ghost use Rattle.number_laws.specs.Bounds.{LawfulDegree};
 ghost use Rattle.fraction_laws.specs.WellFormed.{WellFormed};
 
-use baby_steps::BABY_STEPS;
+use baby_steps::Steps;
 use linear_maps::maps;
-use polynomial::{digits, residues};
+use polynomial::residues::Residues;
 
 // The first power of x, from x itself, that equals q. Where p is primitive every q is met, 1 as the last.
 pub fn step_of(m: u32, p: u32, q: u32) -> u32
@@ -19,19 +19,15 @@ pub fn step_of(m: u32, p: u32, q: u32) -> u32
     requires p_value { primitive m p ≡ true }
     ensures { result ≡ step m p q }
 {
-    let lead = digits::leading_term(m);
+    let residues = Residues::modulo(m, p);
     let count: u32 = 1 << (m / 2);
-    let mut first = [0u32; BABY_STEPS];
-    let mut next = [0u32; BABY_STEPS];
-    let mut value = [0u32; BABY_STEPS];
-    baby_steps::fill(count, q, p, lead, &mut first, &mut next, &mut value);
-    let factor = residues::pow_mod(2, count, p, lead);
-    let map = maps::times_map(factor, p, lead);
+    let steps = Steps::of(residues, q, count);
+    let factor = residues.power(2, count);
+    let map = maps::times_map(residues, factor);
     let mut giant = factor;
     let mut e = count;
     let step = loop {
-        let place = baby_steps::place_of(&first, &next, &value, count, giant);
-        if place != 0 {
+        if let Some(place) = steps.place_of(giant) {
             break e + 1 - place;
         }
         giant = maps::image(&map, giant);

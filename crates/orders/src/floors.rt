@@ -4,7 +4,7 @@ ghost use Rattle.definitions.specs.Generator.{primitive, linear_quotients, reach
 ghost use Rattle.number_laws.specs.Bounds.{LawfulDegree};
 ghost use Rattle.fraction_laws.specs.WellFormed.{WellFormed};
 
-use polynomial::{digits, residues};
+use polynomial::residues::Residues;
 
 // Whether no power of x below the floor is q. Where the quotients are linear q has the degree m - 1, so the powers before x^(m-1) are passed over.
 pub fn reaches_floor(m: u32, floor: u32, p: u32, q: u32) -> bool
@@ -14,15 +14,13 @@ pub fn reaches_floor(m: u32, floor: u32, p: u32, q: u32) -> bool
     requires q_value { linear_quotients p q ≡ true }
     ensures { result ≡ reaches_floor m floor p q }
 {
-    let lead = digits::leading_term(m);
-    let mut power = lead / 2;
-    let mut e = m - 1;
-    while e < floor {
+    let residues = Residues::modulo(m, p);
+    let mut power = residues.lead / 2;
+    for _ in m - 1..floor {
         if power == q {
             return false;
         }
-        power = residues::times_x(power, p, lead);
-        e += 1;
+        power = residues.times_x(power);
     }
     true
 }

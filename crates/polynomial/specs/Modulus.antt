@@ -36,6 +36,9 @@ module _ {p lead : ℕ} (h : Modulus p lead) where
   pub residue_small : (a : ℕ) → a < lead → rem a p ≡ a
   residue_small a l = rem_small p modulus_positive a (rw h.leading at l)
 
+  pub modulus_lead : {m : ℕ} → HasDegree p m → lead ≡ 2 ^ m
+  modulus_lead {m} d = rw (← degree_unique p m d) h.leading
+
   -- where p is a word of 32 bits, so is the double of each residue
   pub lead_fits : p < 2 ^ 32 → lead ≤ 2 ^ 31
   lead_fits fits =

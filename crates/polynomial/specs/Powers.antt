@@ -9,14 +9,21 @@ use Rattle.polynomial_laws.specs.Product.{two_prod, prod_comm}
 use Rattle.polynomial_laws.specs.Division.{rem_prod_left}
 use Rattle.polynomial_laws.specs.Power.{power_zero, power_one, power_add, power_of_x, rem_one, rem_power_sum}
 use Rattle.polynomial.specs.Digits.{shifted_half}
-use Rattle.polynomial.specs.Modulus.{Modulus, modulus_positive, modulus_one}
+use Rattle.polynomial.specs.Modulus.{Modulus, modulus_positive, modulus_one, residue_lt}
 
--- A call on residues, by what it requires and what it ensures: it may be made at each residue, and its result is one.
-pub record Step (pre : ℕ → Type 0) (post : ℕ → ℕ → Type 0) (lead : ℕ) : Type 0 where
-  pub callable : (y : ℕ) → y < lead → pre y
-  pub stays : (y r : ℕ) → y < lead → post y r → r < lead
+-- A call, by what it requires and what it ensures: it may be made at each number below the bound, and its result, a word, is below it again.
+pub record Step (pre : ℕ → Type 0) (post : ℕ → ℕ → Type 0) (bound : ℕ) : Type 0 where
+  pub callable : (y : ℕ) → y < bound → pre y
+  pub stays : (y r : ℕ) → y < bound → r < 2 ^ 32 → post y r → r < bound
 
--- and the residue is that of f y
+-- Two such calls, which may be made in turn from y on
+pub record InTurn (pre : ℕ → Type 0) (post : ℕ → ℕ → Type 0) (pre' : ℕ → Type 0) (post' : ℕ → ℕ → Type 0) (y : ℕ) : Type 0 where
+  pub bound : ℕ
+  pub at : y < bound
+  pub one : Step pre post bound
+  pub other : Step pre' post' bound
+
+-- The result of a call is the residue of f y modulo p, where y is one.
 abbrev pub Gives : (ℕ → ℕ → Type 0) → (ℕ → ℕ) → ℕ → ℕ → Type 0
 Gives post f p lead = (y r : ℕ) → y < lead → post y r → r ≡ rem (f y) p
 
@@ -27,6 +34,11 @@ pub record PowerAt (p lead q e i r : ℕ) : Type 0 where
   pub reached : r ≡ rem (power q (e / 2 ^ i)) p
 
 module _ {p lead : ℕ} (h : Modulus p lead) where
+  pub given : {post : ℕ → ℕ → Type 0} (f : ℕ → ℕ) → Gives post f p lead → {y r : ℕ} → y < lead → post y r → (r ≡ rem (f y) p) × (r < lead)
+  given f gives {y} {r} residue call =
+      let e = gives y r residue call in
+      (e, rw e (residue_lt h (f y)))
+
   pub power_start : (q e : ℕ) → e < 2 ^ 32 → PowerAt p lead q e (32 - count_leading_zeros 32 e) 1
   power_start q e fits =
       let (n, length, most, least) = leading_length 32 e fits in

@@ -4,7 +4,7 @@ ghost use Rattle.definitions.specs.Polynomial.{prod, power, rem};
 ghost use Rattle.number_laws.specs.Bounds.{LawfulDegree};
 ghost use Rattle.polynomial_laws.specs.Degree.{HasDegree};
 ghost use Rattle.polynomial.specs.Modulus.{Modulus};
-ghost use Rattle.polynomial.specs.Powers.{Step, Gives};
+ghost use Rattle.polynomial.specs.Powers.{InTurn, Gives};
 
 use crate::digits;
 
@@ -67,31 +67,25 @@ impl Residues {
         requires { q < self.lead }
         ensures { (result ≡ rem (power q e) self.p) × (result < self.lead) }
     {
-        self.power_by(e, |y| self.product(y, y), |y| self.product(y, q))
+        power_by(e, |y| self.product(y, y), |y| self.product(y, q))
     }
+}
 
-    // q to the e, where `square` squares a residue and `times_q` multiplies one by q: for each digit of e, the highest first, the power is squared, and
-    // multiplied by q where the digit is 1.
-    pub fn power_by<S: Fn(u32) -> u32, T: Fn(u32) -> u32>(
-        self,
-        e: u32,
-        square: S,
-        times_q: T,
-    ) -> u32
-        requires square { Step (S.pre square) (S.post square) self.lead }
-        requires times_q { Step (T.pre times_q) (T.post times_q) self.lead }
-        ensures { (q : ℕ) → Gives (S.post square) (λ y. prod y y) self.p self.lead → Gives (T.post times_q) (λ y. prod y q) self.p self.lead
-            → (result ≡ rem (power q e) self.p) × (result < self.lead) }
-    {
-        let mut power: u32 = 1;
-        for i in (0..32 - u32::leading_zeros(e)).rev() {
-            power = square(power);
-            if (e >> i) % 2 == 1 {
-                power = times_q(power);
-            }
+// q to the e, where `square` squares a residue and `times_q` multiplies one by q: for each digit of e, the highest first, the power is squared, and
+// multiplied by q where the digit is 1.
+pub fn power_by<S: Fn(u32) -> u32, T: Fn(u32) -> u32>(e: u32, square: S, times_q: T) -> u32
+    requires { InTurn (S.pre square) (S.post square) (T.pre times_q) (T.post times_q) 1 }
+    ensures { (p lead q : ℕ) → Modulus p lead → Gives (S.post square) (λ y. prod y y) p lead → Gives (T.post times_q) (λ y. prod y q) p lead
+        → (result ≡ rem (power q e) p) × (result < lead) }
+{
+    let mut power: u32 = 1;
+    for i in (0..32 - u32::leading_zeros(e)).rev() {
+        power = square(power);
+        if (e >> i) % 2 == 1 {
+            power = times_q(power);
         }
-        power
     }
+    power
 }
 
 // The same three for a p and a leading term that are given apart, as docs/PROMISES.md and docs/CONFORMANCE.md name them.

@@ -36,9 +36,7 @@ pub fn quotient_degrees(p: u32, q: u32) -> QuotientDegrees
     while b != 0 {
         let degree_of_b = digits::degree_of(b);
         let degree = degree_of_a - degree_of_b;
-        if largest < degree {
-            largest = degree;
-        }
+        largest = largest.max(degree);
         let rest = remainder(a, b, degree);
         a = b;
         b = rest;

@@ -46,14 +46,11 @@ pub(crate) fn answer<R: Read, W: Write>(reader: &mut R, output: &mut W) -> io::R
     let mut asked = [cases::NOT_GIVEN; 6];
     cases::next(reader, &mut asked)?;
     cases::show(output, &asked)?;
-    let m = asked[0];
-    let floor = asked[2];
-    let p = asked[3];
-    let q = asked[4];
+    let [m, top, floor, p, q, first] = asked;
     let list = Selection {
         degree: m,
-        top: asked[1],
-        floor: floor,
+        top,
+        floor,
         gaps: false,
     };
     printing::judge(output, m, floor, p, q)?;
@@ -61,6 +58,6 @@ pub(crate) fn answer<R: Read, W: Write>(reader: &mut R, output: &mut W) -> io::R
     page(output, b" start", list, Position::Start)?;
     printing::short_page(output, b" short", list, Position::After(p, q))?;
     printing::short_page(output, b" short start", list, Position::Start)?;
-    points(output, m, floor, p, q, asked[5])?;
+    points(output, m, floor, p, q, first)?;
     streams::new_line(output)
 }

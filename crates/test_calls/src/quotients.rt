@@ -25,9 +25,7 @@ fn test<W: Write>(output: &mut W, m: u32, p: u32, q: u32) -> io::Result<()> {
 pub(crate) fn answer<R: Read, W: Write>(reader: &mut R, output: &mut W) -> io::Result<()> {
     let mut asked = [cases::NOT_GIVEN; 3];
     cases::next(reader, &mut asked)?;
-    let m = asked[0];
-    let p = asked[1];
-    let q = asked[2];
+    let [m, p, q] = asked;
     cases::show(output, &asked)?;
     let list = Selection {
         degree: m,

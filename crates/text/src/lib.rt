@@ -3,4 +3,3 @@
 #![tactic(auto)]
 
 pub mod lines; // lines of words and numbers
-mod write; // texts over what stands in a buffer

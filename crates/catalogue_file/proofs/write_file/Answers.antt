@@ -3,7 +3,7 @@ use mathlib.Core.Path.{◌≡◌, refl, ◌∙◌}
 use mathlib.Core.List.{List}
 use Prim.Native.Nat.{ℕ, ◌<◌, ◌≤◌}
 use native.Mathlib.Omega.{arith}
-use lib.ListN.{length, set, length-set}
+use lib.ListN.{length, set}
 use Rattle.definitions.specs.declared.Selection.{Selection}
 use Rattle.definitions.specs.Writing.{entries_of, ranked_file}
 use Rattle.writing_laws.specs.Turns.{filing_end}
@@ -47,9 +47,6 @@ bounds-file-0 c = omega (arith, laws.file_some (asked c) c.requires.lawful_entri
 pub loop-k-init : goal.loop-k-init
 loop-k-init c = (laws.filing_begun (asked c) c.requires.lawful_entries c.args.file.now c.count-n.result c.requires.entries_in_bounds (count_is c) c.requires.contents_value, refl)
 
-pub entry-list-requires : goal.entry-list-requires
-entry-list-requires c = inside c
-
 pub write_list-at-requires : goal.write_list-at-requires
 write_list-at-requires c =
     let a = asks (goal.at.write_list-at-requires c).After-entry-list in
@@ -67,9 +64,6 @@ loop-k-preserved c =
           c.entry-list.result c.entry-list.ensures c.entry_size-place.ensures c.write_list-at.ensures.value c.write_list-at.ensures.file_after,
       kept ∙ l.invariant.1,
     )
-
-pub shape_of-file : goal.shape_of-file
-shape_of-file c = c.loop-k.invariant.0.kept ∙ length-set c.args.file.now 0 c.count-n.result
 
 pub returns : goal.returns
 returns c =

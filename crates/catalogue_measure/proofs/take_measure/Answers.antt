@@ -2,7 +2,6 @@
 use mathlib.Core.Path.{◌≡◌, refl}
 use mathlib.Core.List.{List}
 use Prim.Native.Nat.{ℕ, ◌+◌, ◌*◌, ◌^◌, ◌<◌}
-use native.Mathlib.Nat.{zero-add}
 use native.Mathlib.Omega.{arith}
 use lib.ListN.{length}
 use Rattle.definitions.specs.declared.Selection.{Selection}
@@ -37,12 +36,6 @@ sums_fit : (c : After-entry_size-contents) (b : ℕ) → let l = c.loop-k in let
 sums_fit c b e =
     let l = c.loop-k in
     laws.sum_fits (listed (goal.at.After-entry_size-contents c).At-loop-k) c.requires (l.k + 1) (l.contents + c.entry_size-contents.result) (l.bodies + b) (more c b e)
-
-pub loop-k-init : goal.loop-k-init
-loop-k-init c = record { entries = refl; sizes = zero-add _ }
-
-pub entry-list-requires : goal.entry-list-requires
-entry-list-requires c = inside c
 
 pub overflow_add-contents : goal.overflow_add-contents
 overflow_add-contents c = omega (arith, sums_fit c _ refl)

@@ -1,85 +1,62 @@
 -- `giant_steps::step_of` meets its contract. Assumes nothing.
-use mathlib.Core.Path.{◌≡◌, ap, ◌∙◌}
-use Prim.Native.Nat.{ℕ, ◌*◌, ◌/◌, ◌%◌, ◌^◌, ◌<◌}
+use mathlib.Core.Path.{refl, sym, ap, ◌∙◌}
+use Prim.Native.Nat.{ℕ, ◌*◌, ◌/◌, ◌%◌, ◌^◌}
 use native.Mathlib.Omega.{arith}
 use lib.Pow.{pow_mono}
 use Rattle.definitions.specs.Polynomial.{rem}
-use Rattle.number_laws.specs.Bounds.{one_shl, lead_high}
+use Rattle.number_laws.specs.Bounds.{one_shl}
 use Rattle.polynomial_laws.specs.Power.{power_of_x}
-use Rattle.polynomial.specs.Modulus.{Modulus, lawful_modulus}
 use Rattle.order_laws.specs.Giant.{giant_start}
-use Rattle.baby_steps.proofs.ChainLaws.{chained_none}
-use Rattle.giant_steps.proofs.StepLaws.{count_fits, exponent_fits, place_within, step_told, giant_more, nearer}
+use Rattle.giant_steps.proofs.StepLaws.{Ground, exponent_fits, place_within, step_told, giant_more, nearer}
 use Rattle.giant_steps.proofs.step_of.Goals as goal
-use Rattle.giant_steps.proofs.step_of.Goals.{After-leading_term-lead, Start}
+use Rattle.giant_steps.proofs.step_of.Goals.{After-times_map-map}
 
--- the code's power of two
-half : (c : Start) → 1 * 2 ^ (c.args.m / 2) % 2 ^ 32 ≡ 2 ^ (c.args.m / 2)
-half c = one_shl (c.args.m / 2) (omega (arith, c.requires.lawful_degree.high))
-
-modulus : (c : After-leading_term-lead) → Modulus c.args.p c.leading_term-lead.result
-modulus c = lawful_modulus c.requires.lawful_degree c.requires.well_formed.degree_p c.leading_term-lead.ensures
-
--- ---- the goals
-pub fill-requires : goal.fill-requires
-fill-requires c =
-    let small : c.args.q < c.leading_term-lead.result = omega (arith, c.requires.well_formed.smaller, c.leading_term-lead.ensures) in
-    record { modulus = modulus (goal.at.fill-requires c).After-leading_term-lead; q_lt_lead = small; between = count_fits c.requires.lawful_degree (half (goal.at.fill-requires c).Start); chained = chained_none _ }
-
-pub pow_mod-factor-requires : goal.pow_mod-factor-requires
-pow_mod-factor-requires c = record { modulus = modulus (goal.at.pow_mod-factor-requires c).After-leading_term-lead; q_lt_lead = omega (arith, c.leading_term-lead.ensures, pow_mono {i = 2} {j = c.args.m} c.requires.lawful_degree.low) }
-
-pub times_map-map-requires : goal.times_map-map-requires
-times_map-map-requires c = record { modulus = modulus (goal.at.times_map-map-requires c).After-leading_term-lead; lead_bound = omega (arith, lead_high c.requires.lawful_degree, c.leading_term-lead.ensures); c_lt_lead = c.pow_mod-factor.ensures.1 }
-
-pub loop-first-init : goal.loop-first-init
-loop-first-init c =
+-- what stays as it is in the walk; the code's power of two is that of the digits' half
+ground : (c : After-times_map-map) → let steps = c.of-steps.result in
+    Ground c.args.m c.args.p c.args.q c.modulo-residues.result.lead (1 * 2 ^ (c.args.m / 2) % 2 ^ 32) steps.first steps.next steps.value
+    c.power-factor.result c.times_map-map.result
+ground c =
     let pre = c.requires in
-    let power = c.pow_mod-factor.ensures.0 ∙ ap (λ (y : ℕ). rem y c.args.p) (power_of_x _) in (
-      record {
-        lawful = pre.lawful_degree;
-        formed = pre.well_formed;
-        full = pre.p_value;
-        leading = c.leading_term-lead.ensures;
-        half = half (goal.at.loop-first-init c).Start;
-        held = c.fill.ensures;
-        width = power;
-        maps = c.times_map-map.ensures;
-      },
-      giant_start _ _ _ _ power,
-    )
+    let is = c.modulo-residues.ensures in
+    record {
+      lawful = pre.lawful_degree;
+      formed = pre.well_formed;
+      full = pre.p_value;
+      leading = is.1;
+      half = one_shl (c.args.m / 2) (omega (arith, pre.lawful_degree.high));
+      held = rw is.0 at c.of-steps.ensures.steps;
+      width = (rw is.0 at c.power-factor.ensures.0) ∙ ap (λ (y : ℕ). rem y c.args.p) (power_of_x _);
+      maps = rw is.0 at c.times_map-map.ensures;
+    }
 
-pub place_of-place-requires : goal.place_of-place-requires
-place_of-place-requires c =
-    let ground = c.loop-first.invariant.0 in
-    record { between = count_fits ground.lawful ground.half; chained = ground.held.chained }
+pub power-factor-requires : goal.power-factor-requires
+power-factor-requires c = omega (arith, c.modulo-residues.ensures.1, pow_mono {i = 2} {j = c.args.m} c.requires.lawful_degree.low)
+
+pub loop-place-init : goal.loop-place-init
+loop-place-init c = giant_start _ _ _ _ (ground c).width
 
 pub overflow_add-step : goal.overflow_add-step
-overflow_add-step c =
-    let inv = c.loop-first.invariant in
-    omega (arith, exponent_fits inv.0 inv.1)
+overflow_add-step c = omega (arith, exponent_fits (ground (goal.at.overflow_add-step c).After-times_map-map) c.loop-place.invariant)
 
 pub overflow_sub-step : goal.overflow_sub-step
 overflow_sub-step c =
-    let inv = c.loop-first.invariant in
-    omega (arith, place_within inv.0 inv.1 c.place_of-place.ensures)
+    let found = rw c.of-steps.ensures.count at c.in-Some.ensures in
+    omega (arith, place_within (ground (goal.at.overflow_sub-step c).After-times_map-map) c.loop-place.invariant found.0)
 
 pub overflow_add-e : goal.overflow_add-e
-overflow_add-e c =
-    let inv = c.loop-first.invariant in
-    omega (arith, exponent_fits inv.0 inv.1)
+overflow_add-e c = omega (arith, exponent_fits (ground (goal.at.overflow_add-e c).After-times_map-map) c.loop-place.invariant)
 
-pub loop-first-smaller : goal.loop-first-smaller
-loop-first-smaller c =
-    let inv = c.loop-first.invariant in
-    nearer inv.0 inv.1 c.place_of-place.ensures c.if-place-ne0.false
+pub loop-place-smaller : goal.loop-place-smaller
+loop-place-smaller c =
+    let none = sym (rw c.of-steps.ensures.count at c.in_default.ensures) in
+    nearer (ground (goal.at.loop-place-smaller c).After-times_map-map) c.loop-place.invariant none refl
 
-pub loop-first-preserved : goal.loop-first-preserved
-loop-first-preserved c =
-    let inv = c.loop-first.invariant in
-    (inv.0, giant_more inv.0 inv.1 c.place_of-place.ensures c.image-giant.ensures c.if-place-ne0.false)
+pub loop-place-preserved : goal.loop-place-preserved
+loop-place-preserved c =
+    let none = sym (rw c.of-steps.ensures.count at c.in_default.ensures) in
+    giant_more (ground (goal.at.loop-place-preserved c).After-times_map-map) c.loop-place.invariant none c.image-giant.ensures refl
 
 pub returns : goal.returns
 returns c =
-    let inv = c.loop-first.invariant in
-    step_told inv.0 inv.1 c.place_of-place.ensures c.if-place-ne0.true
+    let found = rw c.of-steps.ensures.count at c.in-Some.ensures in
+    step_told (ground (goal.at.returns c).After-times_map-map) c.loop-place.invariant found.0 (λ none. omega (arith, found.1))

@@ -4,7 +4,7 @@ use Rattle.linear_maps.specs.Filling.{Filled}
 use Rattle.linear_maps.proofs.maps.fill.Given as goal
 
 abbrev pub invariant-loop-unit : goal.invariant-loop-unit
-invariant-loop-unit l = Filled l.squares l.p l.lead l.first l.base l.unit l.table l.image
+invariant-loop-unit g l = Filled (goal.N-post g l.next) l.fn.residues.lead l.first l.base l.unit l.table l.image
 
 abbrev pub decreases-loop-unit : goal.decreases-loop-unit
-decreases-loop-unit l = l.lead - l.unit
+decreases-loop-unit g l = l.fn.residues.lead - l.unit

@@ -5,7 +5,7 @@ use Rattle.linear_maps.specs.Filling.{Block}
 use Rattle.linear_maps.proofs.maps.fill_block.Given as goal
 
 abbrev pub invariant-loop-n : goal.invariant-loop-n
-invariant-loop-n l = Block l.squares l.p l.lead l.base l.first l.n l.initial.table l.table l.image
+invariant-loop-n g l = Block (goal.N-post g l.next) l.fn.residues.lead l.base l.first l.n l.initial.table l.table l.image
 
 abbrev pub decreases-loop-n : goal.decreases-loop-n
-decreases-loop-n l = block - l.n
+decreases-loop-n g l = block - l.n

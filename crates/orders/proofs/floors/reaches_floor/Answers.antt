@@ -4,35 +4,26 @@ use mathlib.Core.Path.{sym}
 use native.Mathlib.Omega.{arith}
 use Rattle.number_laws.specs.Bounds.{lead_low}
 use Rattle.order_laws.specs.Floor.{reaches_floor_is, below_floor}
-use Rattle.polynomial.specs.Modulus.{lawful_modulus}
 use Rattle.orders.proofs.Finder.{at_leading, at_found, at_next}
 use Rattle.orders.proofs.floors.reaches_floor.Goals as goal
 
-pub overflow_sub-e : goal.overflow_sub-e
-overflow_sub-e c = omega (arith, c.requires.lawful_degree.low)
-
-pub loop-e-init : goal.loop-e-init
-loop-e-init c =
+pub loop-init : goal.loop-init
+loop-init c =
     let pre = c.requires in
-    (at_leading _ _ _ pre.lawful_degree pre.well_formed pre.p_value pre.q_value c.leading_term-lead.ensures, omega (arith, lead_low pre.lawful_degree, c.leading_term-lead.ensures))
+    (at_leading _ _ _ pre.lawful_degree pre.well_formed pre.p_value pre.q_value c.modulo-residues.ensures.1, omega (arith, lead_low pre.lawful_degree, c.modulo-residues.ensures.1))
 
 pub returns-then-power-q : goal.returns-then-power-q
 returns-then-power-q c =
     let pre = c.requires in
-    let at-step = at_found _ _ _ pre.lawful_degree pre.well_formed pre.p_value _ _ c.loop-e.invariant.0 c.if-power-q.true in
-    sym (below_floor _ _ _ _ (omega (arith, at-step, c.loop-e-test.true)))
+    let at-step = at_found _ _ _ pre.lawful_degree pre.well_formed pre.p_value _ _ c.loop.invariant.0 c.if-power-q.true in
+    sym (below_floor _ _ _ _ (omega (arith, at-step, c.loop-test.true)))
 
-pub times_x-power-requires : goal.times_x-power-requires
-times_x-power-requires c =
-    let pre = c.requires in
-    record { modulus = lawful_modulus pre.lawful_degree pre.well_formed.degree_p c.leading_term-lead.ensures; y_lt_lead = c.loop-e.invariant.1 }
-
-pub loop-e-preserved : goal.loop-e-preserved
-loop-e-preserved c =
+pub loop-preserved : goal.loop-preserved
+loop-preserved c =
     let pre = c.requires in (
-      at_next _ _ _ pre.lawful_degree pre.well_formed pre.p_value _ _ _ c.loop-e.invariant.0 c.if-power-q.false c.times_x-power.ensures.0,
+      at_next _ _ _ pre.lawful_degree pre.well_formed pre.p_value _ _ _ c.loop.invariant.0 c.if-power-q.false (rw c.modulo-residues.ensures.0 at c.times_x-power.ensures.0),
       c.times_x-power.ensures.1,
     )
 
 pub returns : goal.returns
-returns c = sym ((reaches_floor_is _ _ _ _).1 (omega (arith, c.loop-e.invariant.0.most, c.loop-e-test.false)))
+returns c = sym ((reaches_floor_is _ _ _ _).1 (omega (arith, c.loop.invariant.0.most, c.loop-test.false)))

@@ -2,19 +2,13 @@
 use native.Mathlib.Omega.{arith}
 use Rattle.number_laws.specs.Bounds.{lead_low, lead_high}
 use Rattle.order_laws.specs.Step.{step_to}
-use Rattle.polynomial.specs.Modulus.{lawful_modulus}
 use Rattle.orders.proofs.Finder.{at_start, at_found, at_before, at_next}
 use Rattle.orders.proofs.step.find_step.Goals as goal
 
 pub loop-power-init : goal.loop-power-init
 loop-power-init c =
     let pre = c.requires in
-    (at_start _ _ _ pre.lawful_degree pre.well_formed pre.p_value, omega (arith, lead_low pre.lawful_degree, c.leading_term-lead.ensures))
-
-pub times_x-power-requires : goal.times_x-power-requires
-times_x-power-requires c =
-    let pre = c.requires in
-    record { modulus = lawful_modulus pre.lawful_degree pre.well_formed.degree_p c.leading_term-lead.ensures; y_lt_lead = c.loop-power.invariant.1 }
+    (at_start _ _ _ pre.lawful_degree pre.well_formed pre.p_value, omega (arith, lead_low pre.lawful_degree, c.modulo-residues.ensures.1))
 
 pub overflow_add-e : goal.overflow_add-e
 overflow_add-e c =
@@ -30,7 +24,7 @@ loop-power-smaller c =
 pub loop-power-preserved : goal.loop-power-preserved
 loop-power-preserved c =
     let pre = c.requires in (
-      at_next _ _ _ pre.lawful_degree pre.well_formed pre.p_value _ _ _ c.loop-power.invariant.0 c.if-power-q.false c.times_x-power.ensures.0,
+      at_next _ _ _ pre.lawful_degree pre.well_formed pre.p_value _ _ _ c.loop-power.invariant.0 c.if-power-q.false (rw c.modulo-residues.ensures.0 at c.times_x-power.ensures.0),
       c.times_x-power.ensures.1,
     )
 

@@ -2,10 +2,10 @@
 -- is the place.
 use Prim.Native.Nat.{◌-◌}
 use Rattle.baby_steps.proofs.ChainLaws.{Seeking}
-use Rattle.baby_steps.proofs.place_of.Given as goal
+use Rattle.baby_steps.proofs.Steps.place_of.Given as goal
 
 abbrev pub invariant-loop-place : goal.invariant-loop-place
-invariant-loop-place l = Seeking (l.count - 1) l.count l.residue l.value l.place
+invariant-loop-place l = Seeking (l.self.count - 1) l.self.count l.residue l.self.value l.place
 
 abbrev pub decreases-loop-place : goal.decreases-loop-place
 decreases-loop-place l = l.place
