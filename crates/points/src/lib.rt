@@ -9,7 +9,14 @@ use polynomial::digits;
 use words::writing;
 
 // Writes words first, first + 1, .. until the slice or the period ends, and says how many; or the documents' refusal 1, 12, 3, 4, 5, 6, 11 or 8.
-pub fn points(degree: u32, floor: u32, p: u32, q: u32, first: u32, out: &mut [u32]) -> Result<usize, Refusal>
+pub fn points(
+    degree: u32,
+    floor: u32,
+    p: u32,
+    q: u32,
+    first: u32,
+    out: &mut [u32],
+) -> Result<usize, Refusal>
     ensures answer { result ≡ points_answer degree floor p q first out.old }
     ensures slice { out.new ≡ points_slice degree floor p q first out.old }
 {
