@@ -1,8 +1,8 @@
 // Powers modulo p by look-ups: squares are looked up, and so is times q; times x is a shift.
-ghost use Rattle.std.specs.Prelude.{◌≡◌, ℕ, ◌^◌, ◌<◌};
-ghost use Rattle.definitions.specs.Polynomial.{prod, power, rem};
-ghost use Rattle.polynomial.specs.Modulus.{Modulus};
+ghost use Rattle.std.specs.Prelude.{◌≡◌, ◌^◌, ◌<◌};
+ghost use Rattle.definitions.specs.Polynomial.{prod, rem};
 ghost use Rattle.linear_maps.specs.Maps.{Maps};
+ghost use Rattle.full_orders.specs.Tabled.{TabledPower};
 
 use linear_maps::maps;
 use polynomial::residues;
@@ -18,8 +18,7 @@ pub fn pow_x(residues: Residues, e: u32, squares: &[u32; maps::ENTRIES]) -> u32
 
 // and q to the e, for the q and the p whose tables are given.
 pub fn pow_q(e: u32, products: &[u32; maps::ENTRIES], squares: &[u32; maps::ENTRIES]) -> u32
-    ensures { (p lead q : ℕ) → Modulus p lead → Maps (λ a. rem (prod a a) p) lead squares.now
-        → Maps (λ a. rem (prod q a) p) lead products.now → (result ≡ rem (power q e) p) × (result < lead) }
+    ensures { TabledPower products.now squares.now e result }
 {
     residues::power_by(e, |y| maps::image(squares, y), |y| maps::image(products, y))
 }
