@@ -1,6 +1,5 @@
 -- What the numbers of the search keep from call to call, and how wide a range may be.
 -- Assumes nothing.
-use mathlib.Core.Logic.{◌⊎◌, inl, inr}
 use Prim.Native.Nat.{ℕ, suc, ◌+◌, ◌-◌, ◌*◌, ◌/◌, ◌≤◌, ◌<◌}
 use native.Mathlib.Nat.{div-lt_iff_lt-mul, mul-le-mul_left}
 use native.Mathlib.Omega.{arith}
@@ -59,38 +58,6 @@ module _ {m f c n i l h low w : ℕ} (r : Room m f c n i l h low w) where
     share = omega (arith, r.share);
     wide = λ b. omega (arith, r.wide b);
   }
-
-  pub room_behind : {u to : ℕ} → u ≤ w → low + i + f < u → to ≤ 32 → (2 ≤ c → to ≤ m + 1 + low + i - n - u) → Room m f c n i (i + 1) (i + 1 + to) low u
-  room_behind less on most part = record {
-    numbers = record {
-      bound_low = r.numbers.bound_low;
-      bound_high = r.numbers.bound_high;
-      degree_high = r.numbers.degree_high;
-      coordinate_low = r.numbers.coordinate_low;
-      coordinate_high = r.numbers.coordinate_high;
-      least = omega (arith, r.numbers.least);
-      counted = r.numbers.counted;
-      rows_few = r.numbers.rows_few;
-      begins = omega arith;
-    };
-    reaches = omega arith;
-    ordered = omega arith;
-    ends = omega (arith, r.numbers.least, r.numbers.degree_high);
-    share = omega (arith, r.share);
-    wide = λ b. omega (arith, part b, r.share);
-  }
-
-  pub leaving : (h ≤ i) ⊎ (w ≤ low + i + f) → Leaving m f c n i l low w
-  leaving closed = record {
-    numbers = r.numbers;
-    few = omega (arith, r.reaches, r.ends);
-    closes = λ on. closes on closed;
-    spare = λ b. omega (arith, r.wide b, r.reaches);
-  }
-    where
-      closes : low + l + f < w → (h ≤ i) ⊎ (w ≤ low + i + f) → l ≤ i
-      closes on (inl a) = omega (arith, r.ordered)
-      closes on (inr a) = omega arith
 
 -- Numbers where coordinates below are gone through.
 pub record Deep (m c n l low w : ℕ) : Type 0 where

@@ -23,7 +23,7 @@ use Rattle.relation_laws.specs.Leading.{Spanned, Leads, spanned_sum}
 use Rattle.relation_laws.specs.Starts.{starts}
 use Rattle.relation_laws.specs.Mask.{chosen, chosen_not, digit_other}
 use Rattle.relation_laws.specs.Turn.{Packed, state_leave, state_kept, row_some, state_take, scan_all, scan_none}
-use Rattle.relations.specs.Slots.{slot, Occupied, Apart, Reduced, Scanning}
+use Rattle.relations.specs.Slots.{slot, Apart, Reduced, Scanning}
 use Rattle.relations.proofs.WordLaws.{place, Leading, leading}
 use Rattle.digit_rows.specs.Table.{Rows}
 use Rattle.least_weight.specs.Search.{Taken, Path, Kept, Searched, Below}
@@ -215,9 +215,6 @@ module _ {table : List ℕ} {m c i n σ mask low w : ℕ} {b : List ℕ} (t : Ta
 
   pub row_apart : Apart b mask row
   row_apart = record { some = sum_some path.G path.agree path.hs path.state }
-
-  pub row_occupied : Occupied b mask
-  row_occupied = record { has = path.state.held.occupied }
 
   module _ {v : ℕ} (reduced : Reduced b mask row v) where
     pub row_leads : Leading v

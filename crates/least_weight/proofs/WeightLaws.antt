@@ -2,12 +2,11 @@
 -- Assumes nothing.
 use mathlib.Core.Path.{◌≡◌, refl, sym, ap, ◌∙◌}
 use mathlib.Core.List.{List, []}
-use Prim.Native.Nat.{ℕ, suc, ◌+◌, ◌-◌, ◌*◌, ◌≤◌, ◌<◌}
+use Prim.Native.Nat.{ℕ, suc, ◌+◌, ◌-◌, ◌*◌, ◌≤◌}
 use native.Mathlib.Omega.{arith}
 use lib.ListN.{get_or, length}
 use Rattle.definitions.specs.Generator.{largest_degree}
 use Rattle.definitions.specs.Net.{t_value}
-use Rattle.definitions.specs.Ranking.{largest_top}
 use Rattle.polynomial_laws.specs.Degree.{HasDegree}
 use Rattle.net_laws.specs.Point.{digit_row}
 use Rattle.net_laws.specs.TValue.{StopBound}
@@ -15,7 +14,7 @@ use Rattle.relation_laws.specs.Coordinate.{found_t_value}
 use Rattle.relation_laws.specs.Turn.{state_start}
 use Rattle.relations.specs.Slots.{slot}
 use Rattle.digit_rows.specs.Table.{Rows}
-use Rattle.least_weight.specs.Search.{largest_bound, Words, Path, Room, Searched, LeastFound}
+use Rattle.least_weight.specs.Search.{Words, Path, Searched, LeastFound}
 
 -- the rows of the table, as they stand
 tabled : List ℕ → ℕ → ℕ → ℕ
@@ -43,24 +42,3 @@ module _ {table : List ℕ} {m f c w : ℕ} {b : List ℕ} where
           let found = x.found (digit_row p q) agree [] (state_start (digit_row p q) 32 64 c (slot b)) in
           found_t_value m p of q f (c - 1) w r sound (before ∙ ap (λ (s : ℕ). suc m - t_value m p q s) e) (rw e at found)
           ∙ ap (λ (s : ℕ). suc m - t_value m p q (suc s)) (sym e)
-
-pub room_start : {m f c w to : ℕ} → 1 ≤ f → f ≤ largest_bound → 1 ≤ c → c < largest_top → m ≤ largest_degree → w ≤ suc m → to ≤ 32 → (2 ≤ c → to ≤ m + 1 - w)
-    → Room m f c 0 0 1 (1 + to) 0 w
-room_start a b some few small least most part = record {
-  numbers = record {
-    bound_low = a;
-    bound_high = b;
-    degree_high = small;
-    coordinate_low = some;
-    coordinate_high = few;
-    least = least;
-    counted = omega arith;
-    rows_few = omega arith;
-    begins = omega arith;
-  };
-  reaches = omega arith;
-  ordered = omega arith;
-  ends = omega arith;
-  share = omega arith;
-  wide = λ two. omega (arith, part two);
-}

@@ -1,13 +1,36 @@
 // The search for the lightest relation, over ranges of shares: of each coordinate a range of digits, of which the most are taken and the fewest counted. So
 // one search of the coordinates below serves all shares in the ranges.
-ghost use Rattle.std.specs.Prelude.{◌+◌, ◌<◌, ◌≤◌};
+ghost use Rattle.std.specs.Prelude.{◌≡◌, ◌+◌, ◌<◌, ◌≤◌};
 ghost use Rattle.definitions.specs.Ranking.{largest_top};
-ghost use Rattle.least_weight.specs.Search.{Path, Room, Leaving, Searched, Below};
+ghost use Rattle.least_weight.specs.Places.{PathAt, RoomAt, LeavingAt, SearchedAt, BelowAt, Reached};
 
 use digit_rows::table::TABLE;
 use limits::LARGEST_DEGREE;
 use relations::sums::scan;
 use relations::vectors::{SLOTS, reduce};
+
+// What stays the same over a search: the degree, the bound below which no more digit rows need be taken, and the digit rows.
+#[derive(Clone, Copy)]
+pub struct Search<'a> {
+    pub degree: u32,
+    pub bound: u32,
+    pub table: &'a [u32; TABLE],
+}
+
+// A place in it: `digits` rows of the coordinate are among those taken, and its range goes from `from` to `to`; the coordinates above count `counted`, and
+// `least` is the least weight so far. The mask chooses the vectors in the basis, and `starts` has a 1 where each coordinate's rows start.
+#[derive(Clone, Copy)]
+pub struct Place {
+    pub coordinate: u32,
+    pub taken: u32,
+    pub digits: u32,
+    pub from: u32,
+    pub to: u32,
+    pub counted: u32,
+    pub least: u32,
+    pub mask: u64,
+    pub starts: u64,
+}
 
 // How far a range of the coordinate may go, where so many digit rows more may be taken than are counted: its part of them. Behind the last coordinate
 // nothing is searched, and one range has all.
@@ -21,139 +44,77 @@ pub fn width(spare: u32, coordinate: u32) -> u32
     (spare + coordinate - 2) / (coordinate - 1)
 }
 
-// The least weight, where `digits` rows of the coordinate are among those taken and its range goes from `from` to `to`; the coordinates above
-// count `counted`, and `least` is the least weight so far. The mask chooses the vectors in the basis, and `starts` has a 1 where each coordinate's rows start.
-#[cycle(search_below_search_ranges_take_row)]
-pub fn search_ranges(
-    coordinate: u32,
-    taken: u32,
-    digits: u32,
-    from: u32,
-    to: u32,
-    counted: u32,
-    least: u32,
-    mask: u64,
-    starts: u64,
-    degree: u32,
-    bound: u32,
-    table: &[u32; TABLE],
-    basis: &mut [u64; SLOTS],
-) -> u32
-    requires path { Path table.now degree coordinate digits taken starts basis.old mask }
-    requires room { Room degree bound coordinate taken digits from to counted least }
-    ensures { Searched table.now degree bound coordinate taken digits from counted least starts mask
-        basis.old basis.new result }
-{
-    if digits < to {
-        if counted + digits + bound < least {
-            return take_row(
-                coordinate, taken, digits, from, to, counted, least, mask, starts, degree, bound,
-                table, basis,
-            );
+impl Search<'_> {
+    // The least weight from here on. Where the range is ended, the coordinates below are gone through, and the next range begins behind it.
+    #[cycle(search_below_search_ranges)]
+    pub fn search_ranges(self, start: Place, basis: &mut [u64; SLOTS]) -> u32
+        requires path { PathAt self.table.now self.degree start basis.old }
+        requires room { RoomAt self.degree self.bound start }
+        ensures { SearchedAt self.entry.table.now self.entry.degree self.entry.bound start basis.old basis.new result }
+    {
+        let mut at = start;
+        'rows: loop {
+            if at.digits >= at.to || at.counted + at.digits + self.bound >= at.least {
+                at.least = self.search_below(at, basis);
+                if at.counted + at.digits + self.bound >= at.least {
+                    return at.least;
+                }
+                let spare = self.degree + 1 + at.counted + at.digits - at.taken - at.least;
+                at.from = at.digits + 1;
+                at.to = at.from + width(spare, at.coordinate);
+            }
+            at = self.take_row(at, basis);
         }
     }
-    let found = search_below(
-        coordinate, taken, digits, from, counted, least, mask, starts, degree, bound, table, basis,
-    );
-    if counted + digits + bound >= found {
-        return found;
-    }
-    let next = digits + 1;
-    let end = next + width(degree + 1 + counted + digits - taken - found, coordinate);
-    take_row(
-        coordinate, taken, digits, next, end, counted, found, mask, starts, degree, bound, table,
-        basis,
-    )
-}
 
-// The least weight with rows of the coordinates below, over the range of the coordinate from `from` to `digits`.
-#[cycle(search_below_search_ranges_take_row)]
-pub fn search_below(
-    coordinate: u32,
-    taken: u32,
-    digits: u32,
-    from: u32,
-    counted: u32,
-    least: u32,
-    mask: u64,
-    starts: u64,
-    degree: u32,
-    bound: u32,
-    table: &[u32; TABLE],
-    basis: &mut [u64; SLOTS],
-) -> u32
-    requires path { Path table.now degree coordinate digits taken starts basis.old mask }
-    requires leaving { Leaving degree bound coordinate taken digits from counted least }
-    ensures { Below table.now degree bound coordinate taken digits from counted least starts mask
-        basis.old basis.new result }
-{
-    if coordinate == 1 {
-        return least;
+    // The least weight with rows of the coordinates below, over the range of the coordinate from `from` to `digits`.
+    #[cycle(search_below_search_ranges)]
+    pub fn search_below(self, at: Place, basis: &mut [u64; SLOTS]) -> u32
+        requires path { PathAt self.table.now self.degree at basis.old }
+        requires leaving { LeavingAt self.degree self.bound at }
+        ensures { BelowAt self.entry.table.now self.entry.degree self.entry.bound at basis.old basis.new result }
+    {
+        if at.coordinate == 1 {
+            return at.least;
+        }
+        let low = at.counted + at.from;
+        if low + self.bound >= at.least {
+            return at.least;
+        }
+        let coordinate = at.coordinate - 1;
+        let below = Place {
+            coordinate,
+            digits: 0,
+            from: 0,
+            to: width(self.degree + 1 + low - at.taken - at.least, coordinate),
+            counted: low,
+            starts: at.starts | (1 << at.taken),
+            ..at
+        };
+        self.search_ranges(below, basis)
     }
-    let low = counted + from;
-    if low + bound >= least {
-        return least;
-    }
-    let end = width(degree + 1 + low - taken - least, coordinate - 1);
-    search_ranges(
-        coordinate - 1,
-        taken,
-        0,
-        0,
-        end,
-        low,
-        least,
-        mask,
-        starts | (1 << taken),
-        degree,
-        bound,
-        table,
-        basis,
-    )
-}
 
-// The least weight from the next digit row of the coordinate on: it is packed, reduced, scanned and kept, and the search goes on behind it.
-#[cycle(search_below_search_ranges_take_row)]
-pub fn take_row(
-    coordinate: u32,
-    taken: u32,
-    digits: u32,
-    from: u32,
-    to: u32,
-    counted: u32,
-    least: u32,
-    mask: u64,
-    starts: u64,
-    degree: u32,
-    bound: u32,
-    table: &[u32; TABLE],
-    basis: &mut [u64; SLOTS],
-) -> u32
-    requires path { Path table.now degree coordinate digits taken starts basis.old mask }
-    requires room { Room degree bound coordinate taken digits from to counted least }
-    requires digits_lt_to { (digits < to) × (counted + digits + bound < least) }
-    ensures { Searched table.now degree bound coordinate taken digits from counted least starts mask
-        basis.old basis.new result }
-{
-    let value = table[(coordinate * LARGEST_DEGREE + digits) as usize];
-    let row = ((value as u64) << 32) ^ (1 << taken);
-    let v = reduce(basis, mask, row);
-    let found = scan(v, mask, least, least - counted - digits - 2, starts, basis);
-    let place = 63 - u64::leading_zeros(v);
-    basis[place as usize] = v;
-    search_ranges(
-        coordinate,
-        taken + 1,
-        digits + 1,
-        from,
-        to,
-        counted,
-        found,
-        mask ^ (1 << place),
-        starts,
-        degree,
-        bound,
-        table,
-        basis,
-    )
+    // Takes the next digit row of the coordinate: it is packed, reduced, scanned and kept. The place behind it.
+    pub fn take_row(self, at: Place, basis: &mut [u64; SLOTS]) -> Place
+        requires path { PathAt self.table.now self.degree at basis.old }
+        requires room { RoomAt self.degree self.bound at }
+        requires digits_lt_to { (at.digits < at.to) × (at.counted + at.digits + self.bound < at.least) }
+        ensures digits { result.digits ≡ at.digits + 1 }
+        ensures reached { Reached self.entry.table.now self.entry.degree self.entry.bound at basis.old result basis.new }
+    {
+        let value = self.table[(at.coordinate * LARGEST_DEGREE + at.digits) as usize];
+        let row = (u64::from(value) << 32) ^ (1 << at.taken);
+        let v = reduce(basis, at.mask, row);
+        let few = at.least - at.counted - at.digits - 2;
+        let found = scan(v, at.mask, at.least, few, at.starts, basis);
+        let place = 63 - u64::leading_zeros(v);
+        basis[place as usize] = v;
+        Place {
+            taken: at.taken + 1,
+            digits: at.digits + 1,
+            least: found,
+            mask: at.mask ^ (1 << place),
+            ..at
+        }
+    }
 }

@@ -4,7 +4,7 @@ ghost use Rattle.definitions.specs.Generator.{largest_degree};
 ghost use Rattle.definitions.specs.Ranking.{largest_top};
 ghost use Rattle.least_weight.specs.Search.{largest_bound, Words, LeastFound};
 
-use crate::ranges::{search_ranges, width};
+use crate::ranges::{Place, Search, width};
 use digit_rows::table::TABLE;
 use relations::vectors::SLOTS;
 
@@ -21,8 +21,21 @@ pub fn least_weight(
     ensures { LeastFound table.now degree bound coordinate least result }
 {
     let mut basis: [u64; SLOTS] = [0; SLOTS];
-    let end = 1 + width(degree + 1 - least, coordinate);
-    search_ranges(
-        coordinate, 0, 0, 1, end, 0, least, 0, 1, degree, bound, table, &mut basis,
-    )
+    let search = Search {
+        degree,
+        bound,
+        table,
+    };
+    let start = Place {
+        coordinate,
+        taken: 0,
+        digits: 0,
+        from: 1,
+        to: 1 + width(degree + 1 - least, coordinate),
+        counted: 0,
+        least,
+        mask: 0,
+        starts: 1,
+    };
+    search.search_ranges(start, &mut basis)
 }

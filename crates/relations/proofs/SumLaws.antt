@@ -4,7 +4,6 @@ use mathlib.Core.Path.{◌≡◌, sym, ap, ◌∙◌, subst}
 use mathlib.Core.List.{List, ◌∷◌}
 use Prim.Native.Nat.{ℕ, ◌+◌, ◌*◌, ◌%◌, ◌^◌, ◌≤◌, ◌<◌, min}
 use native.Mathlib.Omega.{arith}
-use lib.Pow.{pow_pos}
 use lib.Bits.{bit_xor}
 use Rattle.definitions.specs.Polynomial.{◌⊕◌}
 use Rattle.number_laws.specs.Bounds.{one_shl_in}
@@ -63,9 +62,6 @@ limit digits = 1 * 2 ^ (digits + 32) % 2 ^ 64
 
 limit_is : (digits : ℕ) → digits ≤ 30 → limit digits ≡ 2 ^ (digits + 32)
 limit_is digits l = one_shl_in 64 (digits + 32) (omega arith)
-
-pub limit_some : (digits : ℕ) → digits ≤ 30 → 0 < limit digits
-limit_some digits l = omega (arith, limit_is digits l, pow_pos (digits + 32))
 
 module _ (σ v mask digits : ℕ) (basis : List ℕ) (w r : ℕ) (fits : digits ≤ 30) where
   pub scanning_few : v < limit digits → Summed σ v (mask % limit digits) basis w r → Scanning σ v mask digits basis w r

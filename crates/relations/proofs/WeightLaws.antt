@@ -99,7 +99,7 @@ module _ (σ x w a : ℕ) (inv : Weighing σ x w a) (t : Turn σ a) where
   abbrev f : ℕ
   f = place (up_to σ a)
 
-  pub room : w + k < 64
+  room : w + k < 64
   room = omega (arith, degree_most a (64 - w) (omega (arith, t.newest.least, pow_pos k)) inv.left, digits)
     where
       digits : k ≡ degree a
@@ -132,6 +132,3 @@ module _ (σ a : ℕ) (t : Turn σ a) where
 
   pub divides : 0 < 2 * 2 ^ place a % 2 ^ 64
   divides = omega (arith, t.divisor, pow_pos (suc (place a)))
-
-  pub divides_label : 0 < 1 * 2 ^ place (up_to σ a) % 2 ^ 64
-  divides_label = omega (arith, t.power, pow_pos (place (up_to σ a)))

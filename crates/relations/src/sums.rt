@@ -11,11 +11,7 @@ pub fn lightest_sum(x: u64, mask: u64, least: u32, starts: u64, basis: &[u64; SL
     ensures { Summed starts x mask basis.now least result }
 {
     if mask == 0 {
-        let weight = weight_of(starts, x);
-        if weight < least {
-            return weight;
-        }
-        return least;
+        return u32::min(least, weight_of(starts, x));
     }
     let place = 63 - u64::leading_zeros(mask);
     let rest = mask ^ (1 << place);

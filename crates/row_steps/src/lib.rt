@@ -16,12 +16,9 @@ pub fn write_steps(m: u32, width: usize, n: usize, out: &mut [u32])
     requires have_steps { HaveSteps m (rows_of width n out.old) }
     ensures { out.new ≡ written m width n out.old }
 {
-    let mut i: usize = 0;
-    while i < n {
+    // By index: of a slice that was written through `chunks_exact_mut` the library tells the length alone.
+    for i in 0..n {
         let at = i * width;
-        let p = out[at];
-        let q = out[at + 1];
-        out[at + STEP] = step_of(m, p, q);
-        i += 1;
+        out[at + STEP] = step_of(m, out[at], out[at + 1]);
     }
 }

@@ -1,10 +1,7 @@
--- The invariant: the steps of the first i rows are written. The measure is the rows left.
-use Prim.Native.Nat.{◌-◌}
-use Rattle.row_steps.proofs.TurnLaws as laws
+-- The invariant: the steps of the first i rows are written.
+use mathlib.Core.Path.{◌≡◌}
+use Rattle.row_steps.specs.Written.{written}
 use Rattle.row_steps.proofs.write_steps.Given as goal
 
 abbrev pub invariant-loop-i : goal.invariant-loop-i
-invariant-loop-i l = laws.Stepped l.m l.width l.n l.i l.initial.out l.out
-
-abbrev pub decreases-loop-i : goal.decreases-loop-i
-decreases-loop-i l = l.n - l.i
+invariant-loop-i l = l.out ≡ written l.m l.width l.i l.initial.out

@@ -1,14 +1,8 @@
 -- `sums::scan` meets its contract: v is below the limit, and the mask is cut off there, or nothing is met. Assumes nothing.
 use Prim.Native.Nat.{◌<◌}
 use native.Mathlib.Omega.{arith}
-use Rattle.relations.proofs.SumLaws.{limit, limit_some, scanning_few, scanning_many}
+use Rattle.relations.proofs.SumLaws.{limit, scanning_few, scanning_many}
 use Rattle.relations.proofs.sums.scan.Goals as goal
-
-pub nonzero_rem-mask : goal.nonzero_rem-mask
-nonzero_rem-mask c = limit_some c.args.digits (omega arith)
-
-pub lightest_sum-requires : goal.lightest_sum-requires
-lightest_sum-requires c = c.requires.0
 
 pub returns-then-v-limit : goal.returns-then-v-limit
 returns-then-v-limit c =

@@ -10,21 +10,6 @@ overflow_sub-place c = (leading c.args.row (row_some c.args.basis.now c.args.mas
 pub loop-place-init : goal.loop-place-init
 loop-place-init c = reducing_start c.args.basis.now c.args.mask c.args.row c.requires.apart (omega arith)
 
-pub overflow_cast-place : goal.overflow_cast-place
-overflow_cast-place c = omega (arith, c.loop-place.invariant.at, c.loop-place.invariant.lead.low)
-
-pub overflow_shr-mask : goal.overflow_shr-mask
-overflow_shr-mask c = omega (arith, c.loop-place.invariant.at, c.loop-place.invariant.lead.low)
-
-pub overflow_cast-v : goal.overflow_cast-v
-overflow_cast-v c = omega (arith, c.loop-place.invariant.at, c.loop-place.invariant.lead.low)
-
-pub offset_bounds-basis-place : goal.offset_bounds-basis-place
-offset_bounds-basis-place c = omega (arith, c.loop-place.invariant.at, c.loop-place.invariant.lead.low)
-
-pub bounds-basis-place : goal.bounds-basis-place
-bounds-basis-place c = omega (arith, c.loop-place.invariant.at, c.loop-place.invariant.lead.low)
-
 pub overflow_sub-place-in-loop-place : goal.overflow_sub-place-in-loop-place
 overflow_sub-place-in-loop-place c =
     let a = c.args in
