@@ -15,7 +15,7 @@ pub const BABY_STEPS: usize = 1 << (LARGEST_DEGREE / 2);
 
 // Residues in chains. The place of the residue value[j] is j + 1, with the place before it in its chain in next[j]; `first` has the last place of each
 // chain, and 0 stands for none. The mask is one less than a power of two: residues with the same digits under it are in one chain.
-// Linked by places in fixed arrays: there is no heap for lists or a map, and a place that may be none takes no more room than a number.
+// Linked by places in fixed arrays, since there is no heap for lists or a map; in three of them, since the definition of chains (`Chained`) has three lists.
 #[derive(Drop)]
 pub struct Steps {
     pub mask: u32,
