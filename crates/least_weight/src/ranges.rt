@@ -47,12 +47,11 @@ pub fn width(spare: u32, coordinate: u32) -> u32
 impl Search<'_> {
     // The least weight from here on. Where the range is ended, the coordinates below are gone through, and the next range begins behind it.
     #[cycle(search_below_search_ranges)]
-    pub fn search_ranges(self, start: Place, basis: &mut [u64; SLOTS]) -> u32
-        requires path { PathAt self.table.now self.degree start basis.old }
-        requires room { RoomAt self.degree self.bound start }
-        ensures { SearchedAt self.entry.table.now self.entry.degree self.entry.bound start basis.old basis.new result }
+    pub fn search_ranges(self, mut at: Place, basis: &mut [u64; SLOTS]) -> u32
+        requires path { PathAt self.table.now self.degree at basis.old }
+        requires room { RoomAt self.degree self.bound at }
+        ensures { SearchedAt self.entry.table.now self.entry.degree self.entry.bound at basis.old basis.new result }
     {
-        let mut at = start;
         'rows: loop {
             if at.digits >= at.to || at.counted + at.digits + self.bound >= at.least {
                 at.least = self.search_below(at, basis);

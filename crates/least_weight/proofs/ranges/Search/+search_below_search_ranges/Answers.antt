@@ -50,7 +50,7 @@ search_ranges-rows-preserved t c =
     let a = c.args in
     let here = c.rows.invariant in
     let next = c.take_row-at.ensures.reached in
-    let ahead : (c.if-at.at.coordinate ≡ a.start.coordinate) × ((end : List ℕ) (r : ℕ) → SearchedAt a.self.table.now a.self.degree a.self.bound c.if-at.at c.if-at.basis end r → SearchedAt a.self.table.now a.self.degree a.self.bound a.start a.basis.now end r) =
+    let ahead : (c.if-at.at.coordinate ≡ a.at.coordinate) × ((end : List ℕ) (r : ℕ) → SearchedAt a.self.table.now a.self.degree a.self.bound c.if-at.at c.if-at.basis end r → SearchedAt a.self.table.now a.self.degree a.self.bound a.at a.basis.now end r) =
     elim c.if-at.branch [
       | search_ranges-then-at+else-at-self-2 w ↦ (
         rw w.at-is here.coordinate,
