@@ -38,14 +38,14 @@ fn print_parts<W: Write>(
     ensures { OnOk result (Appends (W.contents output.old) (W.contents output.new) (text_left first)) }
 {
     let mut at = first;
-    let mut more = true;
-    while more {
+    loop {
         let part = parts::next(at, rows, text);
         streams::write_front(output, text, part.bytes)?;
+        if !part.more {
+            return Ok(());
+        }
         at = part.next;
-        more = part.more;
     }
-    Ok(())
 }
 
 // The listing of a line, in parts that the first numbers and bytes of the slices hold.

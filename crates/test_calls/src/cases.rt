@@ -29,9 +29,9 @@ pub(crate) fn next_shown<R: Read, W: Write>(
 
 // The numbers that are asked with, at the start of a line.
 pub(crate) fn show<W: Write>(output: &mut W, asked: &[u32]) -> io::Result<()> {
-    if asked.len() > 0 {
-        streams::print_number(output, b"", asked[0] as u64)?;
-        streams::print_numbers(output, b"", &asked[1..])?;
+    if let [first, others @ ..] = asked {
+        streams::print_number(output, b"", u64::from(*first))?;
+        streams::print_numbers(output, b"", others)?;
     }
     Ok(())
 }

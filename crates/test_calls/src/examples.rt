@@ -9,11 +9,13 @@
 //     7 0                     the hash
 use crate::cases;
 use definitions::{Position, Selection};
-use slice_results::FenyurkaPage;
+use figure_results::FenyurkaTValue;
+use pair_results::FenyurkaJudgement;
+use slice_results::{FenyurkaPage, FenyurkaPoints};
 use std::io;
 use std::io::{Read, Write};
 
-// The kinds of calls.
+// The kinds of calls, as the input numbers them. Constants: an enum would list each of them a second time, to be read from its number.
 const JUDGE: u32 = 1;
 
 const T_VALUE: u32 = 2;
@@ -33,29 +35,24 @@ const PIECE: usize = 4096;
 const NO_FLOOR: u32 = 0;
 
 // The value behind its word, or the refusal.
-fn print_answer<W: Write>(
-    output: &mut W,
-    word: &[u8],
-    refusal: u32,
-    value: usize,
-) -> io::Result<()> {
+fn print_answer<W: Write>(output: &mut W, word: &[u8], refusal: u32, value: u64) -> io::Result<()> {
     if refusal > 0 {
-        streams::print_number(output, b" refused ", refusal as u64)
+        streams::print_number(output, b" refused ", u64::from(refusal))
     } else {
-        streams::print_number(output, word, value as u64)
+        streams::print_number(output, word, value)
     }
 }
 
 // A number of the slice is printed, or goes into the hash, which tells the order too: modulo 2^32 it is taken 31 times, and the word is added.
 fn show<W: Write>(output: &mut W, kind: u32, number: u32, hash: u64) -> io::Result<u64> {
     if kind == HASHED_WORDS {
-        return Ok(hash % 4294967296 * 31 + number as u64);
+        return Ok(hash % 4294967296 * 31 + u64::from(number));
     }
     if kind == WORDS {
         streams::new_line(output)?;
         write!(output, "{number:08x}")?;
     } else {
-        streams::print_number(output, b" ", number as u64)?;
+        streams::print_number(output, b" ", u64::from(number))?;
     }
     Ok(hash)
 }
@@ -69,29 +66,24 @@ fn show_first<W: Write>(
     before: u64,
 ) -> io::Result<u64> {
     let mut hash = before;
-    let mut i = 0;
-    while i < n {
-        if i >= PIECE {
-            return Ok(hash);
-        }
-        hash = show(output, kind, slice[i], hash)?;
-        i += 1;
+    for number in slice.iter().take(n) {
+        hash = show(output, kind, *number, hash)?;
     }
     Ok(hash)
 }
 
 fn judge<W: Write>(output: &mut W, asked: &[u32; 6]) -> io::Result<()> {
-    let answer = pair_results::judgement(generator::judge(asked[2], NO_FLOOR, asked[3], asked[4]));
-    print_answer(output, b" step ", answer.refusal, answer.step as usize)
+    let answer = FenyurkaJudgement::from(generator::judge(asked[2], NO_FLOOR, asked[3], asked[4]));
+    print_answer(output, b" step ", answer.refusal, u64::from(answer.step))
 }
 
 fn t_value<W: Write>(output: &mut W, asked: &[u32; 6]) -> io::Result<()> {
-    let answer = figure_results::t_value(net::t_value(asked[2], asked[3], asked[4], asked[5]));
-    print_answer(output, b" is ", answer.refusal, answer.t as usize)
+    let answer = FenyurkaTValue::from(net::t_value(asked[2], asked[3], asked[4], asked[5]));
+    print_answer(output, b" is ", answer.refusal, u64::from(answer.t))
 }
 
 fn print_page<W: Write>(output: &mut W, answer: FenyurkaPage) -> io::Result<()> {
-    print_answer(output, b" rows ", answer.refusal, answer.count)?;
+    print_answer(output, b" rows ", answer.refusal, answer.count as u64)?;
     if answer.refusal > 0 {
         output.write_all(b":")
     } else if answer.more > 0 {
@@ -108,16 +100,16 @@ fn page<W: Write>(output: &mut W, position: Position, slice: &mut [u32]) -> io::
         floor: NO_FLOOR,
         gaps: false,
     };
-    let answer = slice_results::page(ranking::page(ranking::request(list, position), slice));
+    let answer = FenyurkaPage::from(ranking::page(ranking::request(list, position), slice));
     print_page(output, answer)
 }
 
 // The answer, and how many words were written.
 fn points<W: Write>(output: &mut W, asked: &[u32; 6], slice: &mut [u32]) -> io::Result<usize> {
-    let answer = slice_results::points(points::points(
+    let answer = FenyurkaPoints::from(points::points(
         asked[2], NO_FLOOR, asked[3], asked[4], asked[5], slice,
     ));
-    print_answer(output, b" count ", answer.refusal, answer.count)?;
+    print_answer(output, b" count ", answer.refusal, answer.count as u64)?;
     Ok(answer.count)
 }
 
@@ -142,14 +134,10 @@ fn call<W: Write>(
     Ok(slice.len())
 }
 
-fn length_of(number: u32) -> usize {
-    number as usize
-}
-
 // The call with a slice of the length that is asked for, what is shown of it, and the hash afterwards.
 fn ask<W: Write>(output: &mut W, asked: &[u32; 6], hash: u64) -> io::Result<u64> {
     let mut slice = [9u32; PIECE];
-    let length = length_of(asked[1]);
+    let length = asked[1] as usize;
     if length > PIECE {
         return Ok(hash);
     }

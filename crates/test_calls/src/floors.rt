@@ -8,6 +8,7 @@
 //     points REFUSAL K WORDS      its words from the first index on, into a slice of four: how many were written
 use crate::{cases, printing};
 use definitions::{Position, Selection};
+use slice_results::FenyurkaPage;
 use std::io;
 use std::io::{Read, Write};
 
@@ -23,7 +24,7 @@ fn page<W: Write>(
     position: Position,
 ) -> io::Result<()> {
     let mut rows = [0u32; ROW_ROOM];
-    let answer = slice_results::page(ranking::page(ranking::request(list, position), &mut rows));
+    let answer = FenyurkaPage::from(ranking::page(ranking::request(list, position), &mut rows));
     streams::print_numbers(output, word, &[answer.refusal, answer.quotient_degree])?;
     streams::print_number(output, b" ", answer.count as u64)
 }
@@ -45,14 +46,11 @@ pub(crate) fn answer<R: Read, W: Write>(reader: &mut R, output: &mut W) -> io::R
     let mut asked = [cases::NOT_GIVEN; 6];
     cases::next(reader, &mut asked)?;
     cases::show(output, &asked)?;
-    let m = asked[0];
-    let floor = asked[2];
-    let p = asked[3];
-    let q = asked[4];
+    let [m, top, floor, p, q, first] = asked;
     let list = Selection {
         degree: m,
-        top: asked[1],
-        floor: floor,
+        top,
+        floor,
         gaps: false,
     };
     printing::judge(output, m, floor, p, q)?;
@@ -60,6 +58,6 @@ pub(crate) fn answer<R: Read, W: Write>(reader: &mut R, output: &mut W) -> io::R
     page(output, b" start", list, Position::Start)?;
     printing::short_page(output, b" short", list, Position::After(p, q))?;
     printing::short_page(output, b" short start", list, Position::Start)?;
-    points(output, m, floor, p, q, asked[5])?;
+    points(output, m, floor, p, q, first)?;
     streams::new_line(output)
 }

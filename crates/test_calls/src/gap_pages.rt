@@ -5,6 +5,7 @@
 // The stored answers come from a script that counted the points in every box and every cube.
 use crate::cases;
 use definitions::{Position, Selection};
+use slice_results::FenyurkaPage;
 use std::io;
 use std::io::{Read, Write};
 
@@ -19,10 +20,10 @@ fn page<W: Write>(
     position: Position,
     slice: &mut [u32],
 ) -> io::Result<()> {
-    let answer = slice_results::page(ranking::page(ranking::request(list, position), slice));
+    let answer = FenyurkaPage::from(ranking::page(ranking::request(list, position), slice));
     streams::print_numbers(output, b" page", &[answer.refusal, answer.quotient_degree])?;
     streams::print_number(output, b" ", answer.count as u64)?;
-    streams::print_number(output, b" ", answer.more as u64)?;
+    streams::print_number(output, b" ", u64::from(answer.more))?;
     streams::print_numbers(output, b" slice", slice)
 }
 
@@ -44,25 +45,22 @@ fn page_within<W: Write>(
 // A case of five numbers asks for the first page.
 fn position_of(count: usize, p: u32, q: u32) -> Position {
     if count > 5 {
-        return Position::After(p, q);
+        Position::After(p, q)
+    } else {
+        Position::Start
     }
-    Position::Start
 }
 
 pub(crate) fn answer<R: Read, W: Write>(reader: &mut R, output: &mut W) -> io::Result<()> {
     let mut asked = [cases::NOT_GIVEN; 7];
     let count = cases::next_shown(reader, output, &mut asked)?;
+    let [degree, top, floor, gaps, room, p, q] = asked;
     let list = Selection {
-        degree: asked[0],
-        top: asked[1],
-        floor: asked[2],
-        gaps: asked[3] > 0,
+        degree,
+        top,
+        floor,
+        gaps: gaps > 0,
     };
-    page_within(
-        output,
-        list,
-        position_of(count, asked[5], asked[6]),
-        asked[4],
-    )?;
+    page_within(output, list, position_of(count, p, q), room)?;
     streams::new_line(output)
 }

@@ -4,15 +4,16 @@
 // The stored figures of the pairs of Table 1 of document 001, m = 10 to 16, are those of Table 2, with the line of m = 15 as `tables.rt` reads it; all
 // others, that line as it is printed too, come from a script that counted the points in every cube.
 use crate::cases;
+use figure_results::FenyurkaGaps;
 use std::io;
 use std::io::{Read, Write};
 
 fn print_sum<W: Write>(output: &mut W, m: u32, p: u32, q: u32) -> io::Result<()> {
-    let answer = figure_results::gaps(gaps::sum_of_gaps(m, p, q));
+    let answer = FenyurkaGaps::from(gaps::sum_of_gaps(m, p, q));
     if answer.refusal > 0 {
-        streams::print_number(output, b" refused ", answer.refusal as u64)
+        streams::print_number(output, b" refused ", u64::from(answer.refusal))
     } else {
-        streams::print_number(output, b" ", answer.delta as u64)
+        streams::print_number(output, b" ", u64::from(answer.delta))
     }
 }
 
@@ -26,11 +27,9 @@ fn print_sums<W: Write>(output: &mut W, m: u32, p: u32, q: u32, count: u32) -> i
 pub(crate) fn answer<R: Read, W: Write>(reader: &mut R, output: &mut W) -> io::Result<()> {
     let mut asked = [cases::NOT_GIVEN, cases::NOT_GIVEN, cases::NOT_GIVEN, 1];
     cases::next(reader, &mut asked)?;
-    let m = asked[0];
-    let p = asked[1];
-    let q = asked[2];
+    let [m, p, q, count] = asked;
     cases::show(output, &[m, p, q])?;
     output.write_all(b" gaps")?;
-    print_sums(output, m, p, q, asked[3])?;
+    print_sums(output, m, p, q, count)?;
     streams::new_line(output)
 }

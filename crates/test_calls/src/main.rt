@@ -23,6 +23,7 @@ use std::io::{Read, Write};
 // As many sections as the input has.
 const SECTIONS: u32 = 6;
 
+// The kinds of cases, as the input numbers them.
 const EXAMPLES: u32 = 1;
 
 const QUOTIENTS: u32 = 2;

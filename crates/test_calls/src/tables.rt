@@ -3,9 +3,9 @@
 //     m DEGREE p q REFUSAL STEP t(3) .. t(8)
 // of that pair: the refusal is 0 where the pair is accepted, and the step 0 where it is not. The stored output has the paper's figures, but for m = 15,
 // where our copy of Table 1 has a coefficient too many: there stands what the definitions say, and the line behind it is without that coefficient.
-ghost use Rattle.std.specs.Prelude.{◌≤◌, length};
-
 use crate::cases;
+use figure_results::FenyurkaTValue;
+use pair_results::FenyurkaJudgement;
 use std::io;
 use std::io::{Read, Write};
 
@@ -15,31 +15,24 @@ const NO_FLOOR: u32 = 0;
 // The degree and its coefficients.
 const MOST_NUMBERS: usize = 34;
 
-// The number whose binary digits are the numbers from a place up to another, lowest first.
-fn polynomial(numbers: &[u32], from: usize, to: usize) -> u32
-    requires { to ≤ length numbers.now }
-{
-    let mut value = 0;
-    let mut i = to;
-    while from < i {
-        i -= 1;
-        value = value % 65536 * 2 + numbers[i] % 2;
-    }
-    value
+// The number whose binary digits are these, lowest first.
+fn polynomial(digits: &[u32]) -> u32 {
+    digits
+        .iter()
+        .rev()
+        .fold(0, |value, digit| value % 65536 * 2 + digit % 2)
 }
 
 fn print_t_values<W: Write>(output: &mut W, m: u32, p: u32, q: u32) -> io::Result<()> {
-    let mut s = 3;
-    while s <= 8 {
-        let answer = figure_results::t_value(net::t_value(m, p, q, s));
-        streams::print_number(output, b" ", answer.t as u64)?;
-        s += 1;
+    for s in 3..=8 {
+        let answer = FenyurkaTValue::from(net::t_value(m, p, q, s));
+        streams::print_number(output, b" ", u64::from(answer.t))?;
     }
     Ok(())
 }
 
 fn print_pair<W: Write>(output: &mut W, m: u32, p: u32, q: u32) -> io::Result<()> {
-    let judgement = pair_results::judgement(generator::judge(m, NO_FLOOR, p, q));
+    let judgement = FenyurkaJudgement::from(generator::judge(m, NO_FLOOR, p, q));
     streams::print_numbers(output, b"m", &[m, p, q, judgement.refusal, judgement.step])?;
     print_t_values(output, m, p, q)?;
     streams::new_line(output)
@@ -50,8 +43,8 @@ fn read_pair<W: Write>(output: &mut W, m: u32, numbers: &[u32]) -> io::Result<()
     let behind_p = m as usize + 2;
     let behind_q = behind_p + m as usize;
     if behind_q <= numbers.len() {
-        let p = polynomial(numbers, 1, behind_p);
-        let q = polynomial(numbers, behind_p, behind_q);
+        let p = polynomial(&numbers[1..behind_p]);
+        let q = polynomial(&numbers[behind_p..behind_q]);
         print_pair(output, m, p, q)?;
     }
     Ok(())

@@ -1,8 +1,7 @@
 -- What a reader hands out is a row or the end. Assumes nothing.
-use Rattle.std.specs.Prelude.{Bool, true, false}
-use Rattle.definitions.specs.declared.NextRow.{NextRow}
-use Rattle.definitions.specs.declared.NextRow.TheVariants.{Found, End}
+use Rattle.std.specs.Prelude.{Bool, true, false, Option, Some, None}
+use Rattle.definitions.specs.declared.Row.{Row}
 
-abbrev pub is_row : NextRow → Bool
-is_row (Found r) = true
-is_row End = false
+abbrev pub is_row : Option Row → Bool
+is_row (Some r) = true
+is_row None = false

@@ -1,17 +1,16 @@
 // Opening a file, and looking a degree up; and that no row is read beside the rows of a body.
 use crate::print::{refused, shown};
-use definitions::{Lookup, Opening};
 use std::io;
 use std::io::Write;
 
 pub(crate) fn opened<W: Write>(output: &mut W, file: &[u8]) -> io::Result<()> {
     streams::print_number(output, b"f ", file.len() as u64)?;
     match catalogue::open(file) {
-        Opening::Entries(n) => {
+        Ok(n) => {
             streams::print_number(output, b" n ", n as u64)?;
             streams::new_line(output)
         }
-        Opening::Closed(refusal) => refused(output, refusal),
+        Err(refusal) => refused(output, refusal),
     }
 }
 
@@ -65,7 +64,14 @@ pub(crate) fn looked_up<W: Write>(output: &mut W, file: &[u8], degree: u32) -> i
     streams::print_number(output, b"d ", degree as u64)?;
     streams::print_number(output, b" l ", body.len() as u64)?;
     match catalogue::lookup(file, degree) {
-        Lookup::Body(top, gaps, rows) => found(output, body, degree, top, gaps, rows),
-        Lookup::NoBody(refusal) => refused(output, refusal),
+        Ok(numbers) => found(
+            output,
+            body,
+            degree,
+            numbers.top,
+            numbers.gaps,
+            numbers.rows,
+        ),
+        Err(refusal) => refused(output, refusal),
     }
 }

@@ -2,7 +2,7 @@
 ghost use Rattle.std.specs.Prelude.{◌≡◌, IfOk};
 ghost use Rattle.test_catalogues.specs.Shown.{is_row};
 
-use definitions::{NextRow, Refusal, Row};
+use definitions::{Refusal, Row};
 use std::io;
 use std::io::Write;
 
@@ -29,15 +29,15 @@ fn end<W: Write>(output: &mut W) -> io::Result<()> {
 }
 
 // What a reader hands out, and whether it was a row.
-pub(crate) fn shown<W: Write>(output: &mut W, next: NextRow) -> io::Result<bool>
+pub(crate) fn shown<W: Write>(output: &mut W, next: Option<Row>) -> io::Result<bool>
     ensures { IfOk result (λ b. b ≡ is_row next) }
 {
     match next {
-        NextRow::Found(r) => {
+        Some(r) => {
             row(output, r)?;
             Ok(true)
         }
-        NextRow::End => {
+        None => {
             end(output)?;
             Ok(false)
         }
