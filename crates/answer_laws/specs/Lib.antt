@@ -5,3 +5,4 @@ pub mod Measured
 pub mod PairCalls
 pub mod Together
 pub mod Lent
+pub mod Given

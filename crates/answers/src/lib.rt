@@ -33,19 +33,7 @@ pub fn refusal_degree(refusal: Refusal) -> u32
     ensures { result ≡ refusal_degree refusal }
 {
     match refusal {
-        Refusal::WrongDegree => 0,
-        Refusal::WrongDimension => 0,
-        Refusal::IllFormedPair => 0,
-        Refusal::NotPrimitive => 0,
         Refusal::QuotientNotLinear(degree) => degree,
-        Refusal::StepNotCoprime => 0,
-        Refusal::ShortSlice => 0,
-        Refusal::BeyondPeriod => 0,
-        Refusal::IllFormedCatalogue => 0,
-        Refusal::DegreeMissing => 0,
-        Refusal::StepBelowFloor => 0,
-        Refusal::WrongFloor => 0,
-        Refusal::NotAscending => 0,
-        Refusal::FileTooLong => 0,
+        _ => 0,
     }
 }

@@ -1,6 +1,7 @@
 -- What is asked: the numbers of the line, and the defaults behind them; a line of more than four is read as one that has none.
 -- By cases on the numbers, which stand over the front of the defaults.
 -- Assumes nothing.
+use Rattle.std.specs.Prelude.{Some, None}
 use mathlib.Core.Path.{◌≡◌, refl}
 use mathlib.Core.Bool.{Bool, true, false}
 use mathlib.Core.List.{List, [], ◌∷◌}
@@ -11,7 +12,6 @@ use lib.ListN.{length, get_or}
 use borrow.Author.Tests.{lt-leb, leb-true}
 use Rattle.definitions.specs.Number.{over}
 use Rattle.definitions.specs.Listing.{default_top, default_size, default_floor, line_numbers, numbers_within, asked, read_line}
-use Rattle.definitions.specs.declared.Line.TheVariants.{Asked, Unreadable}
 
 -- The most numbers of a line: degree, top dimension, page size and floor.
 abbrev pub most_numbers : ℕ
@@ -42,21 +42,21 @@ abbrev defaults : List ℕ
 defaults = 0 ∷ default_top ∷ default_size ∷ default_floor ∷ []
 
 module _ (s : List ℕ) {r : ℕ} (count : r ≡ length (numbers_within most_numbers s)) where
-  pub asked_none : r ≡ 0 → Unreadable ≡ read_line s
+  pub asked_none : r ≡ 0 → None ≡ read_line s
   unfolding asked
   asked_none z = rw (read_within s) (go (numbers_within most_numbers s) count)
     where
-      go : (l : List ℕ) → r ≡ length l → Unreadable ≡ asked l
+      go : (l : List ℕ) → r ≡ length l → None ≡ asked l
       go [] e = refl
       go (m ∷ l) e = absurd (omega arith)
 
   pub asked_some : {exit : List ℕ} → exit ≡ over 0 (numbers_within most_numbers s) defaults → (r ≡ 0 → ⊥)
-      → Asked (get_or exit 0 0) (get_or exit 1 0) (get_or exit 2 0) (get_or exit 3 0) ≡ read_line s
+      → Some (record { degree = get_or exit 0 0; top = get_or exit 1 0; size = get_or exit 2 0; floor = get_or exit 3 0 }) ≡ read_line s
   unfolding over asked
   asked_some {exit} stored some = rw (read_within s) (go (numbers_within most_numbers s) count (within_few s) stored)
     where
       go : (l : List ℕ) → r ≡ length l → length l ≤ most_numbers → exit ≡ over 0 l defaults
-          → Asked (get_or exit 0 0) (get_or exit 1 0) (get_or exit 2 0) (get_or exit 3 0) ≡ asked l
+          → Some (record { degree = get_or exit 0 0; top = get_or exit 1 0; size = get_or exit 2 0; floor = get_or exit 3 0 }) ≡ asked l
       go [] e f h = absurd (some e)
       go (m ∷ []) e f h = rw h
       go (m ∷ top ∷ []) e f h = rw h

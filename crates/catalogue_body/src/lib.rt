@@ -22,15 +22,13 @@ pub fn write_body(list: Selection, rows: &mut [u32], file: &mut [u8], at: usize)
     ensures file_after { file.new ≡ over at (body_bytes (ranked_list list)) file.old }
 {
     let size = sizes::row_size(list.degree, list.top, list.gaps);
-    let mut here = reading::start(list);
-    let mut more = true;
+    let mut next = Some(reading::start(list));
     let mut done: usize = 0;
-    while more {
+    while let Some(here) = next {
         let portion = reading::next(here, rows);
         write_rows(file, at + done * size, list, rows, portion.rows);
         done += portion.rows;
-        here = portion.next;
-        more = portion.more;
+        next = portion.next;
     }
     done
 }

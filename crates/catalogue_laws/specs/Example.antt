@@ -1,6 +1,6 @@
 -- Document 01's catalogue of 41 bytes, computed: it is what the encoder makes of the ranked list of degree 3 and T = 4, it is well-formed,
 -- and a reader hands out its four rows and then the end. The same list with Δ takes 45 bytes. Assumes nothing.
-use Rattle.std.specs.Prelude.{◌≡◌, refl, Bool, true, false, List, [], ◌∷◌, map, ℕ}
+use Rattle.std.specs.Prelude.{◌≡◌, refl, Bool, true, false, List, [], ◌∷◌, map, ℕ, Ok}
 use Rattle.definitions.specs.Ranking.{ranked}
 use Rattle.definitions.proofs.Examples.{no_floor, calls, list_three}
 use Rattle.definitions.specs.Answers.{unless, next_row_values}
@@ -8,8 +8,6 @@ use Rattle.definitions.specs.Catalogue.{number_at, number_size, count_size, entr
 use Rattle.definitions.specs.Catalogue.{catalogue_form, opening, entry_from, entry_of, looking, lookup_numbers, lookup_part, reader_top, at_row, row_at, next_row}
 use Rattle.definitions.specs.Catalogue.{reader_gaps, next_place}
 use Rattle.definitions.specs.Writing.{Listed, bytes_of, row_bytes, body_bytes, entry_bytes, contents_bytes, behind_lists, catalogue_bytes}
-use Rattle.definitions.specs.declared.Opening.TheVariants.{Entries}
-use Rattle.definitions.specs.declared.Lookup.TheVariants.{Body}
 use Rattle.catalogue_laws.specs.Reader.{hands_out}
 
 unfoldable pub printed : List ℕ
@@ -36,11 +34,11 @@ pub printed_form : catalogue_form printed ≡ true
 unfolding printed form
 printed_form = refl
 
-pub printed_opens : opening printed ≡ Entries 1
+pub printed_opens : opening printed ≡ Ok 1
 unfolding printed form opening
 printed_opens = refl
 
-pub printed_numbers : lookup_numbers printed 3 ≡ Body 4 false 4
+pub printed_numbers : lookup_numbers printed 3 ≡ Ok (record { top = 4; gaps = false; rows = 4 })
 unfolding printed form lookup_numbers
 printed_numbers = refl
 
@@ -77,7 +75,7 @@ pub gaps_form : catalogue_form with_gaps ≡ true
 unfolding with_gaps form
 gaps_form = refl
 
-pub gaps_numbers : lookup_numbers with_gaps 3 ≡ Body 4 true 4
+pub gaps_numbers : lookup_numbers with_gaps 3 ≡ Ok (record { top = 4; gaps = true; rows = 4 })
 unfolding with_gaps form lookup_numbers
 gaps_numbers = refl
 

@@ -1,20 +1,19 @@
 -- Lookups: when opening refuses, and where the entry of a degree is.
 -- The entry by the recursion that looks for it; in a file of the form the entry that is found is lawful. Assumes nothing.
-use Rattle.std.specs.Prelude.{◌≡◌, refl, Bool, true, false, not, List, ℕ, zero, suc, ◌-◌, ◌<◌, ◌≤◌, eqb}
+use Rattle.std.specs.Prelude.{◌≡◌, refl, Bool, true, false, not, List, ℕ, zero, suc, ◌-◌, ◌<◌, ◌≤◌, eqb, Ok, Err}
 use Rattle.std.proofs.Common.{ap, ◌∙◌, arith, eqb-true, eq-eqb, ne_eqb}
 use Rattle.std.proofs.lemmas.Bool.{eqb-false}
 use Rattle.definitions.specs.Catalogue.{byte_at, entry_at, first_entry, behind_entry, behind_entries, contents_end, entries_form, catalogue_form, opening, entry_from}
 use Rattle.definitions.specs.Catalogue.{entry_of}
 use Rattle.definitions.specs.declared.Refusal.TheVariants.{IllFormedCatalogue}
-use Rattle.definitions.specs.declared.Opening.TheVariants.{Entries, Closed}
 use Rattle.answer_laws.specs.Unless.{here, passes, at_end, unless_refused, unless_given}
 use Rattle.catalogue_laws.specs.Form.{LawfulEntry, entries_out, entry_at_degree, behind_least, catalogue_form_lem}
 
-pub opening_closed : (s : List ℕ) → catalogue_form s ≡ false → opening s ≡ Closed IllFormedCatalogue
+pub opening_closed : (s : List ℕ) → catalogue_form s ≡ false → opening s ≡ Err IllFormedCatalogue
 unfolding opening
 opening_closed s e = unless_refused _ _ (here (ap not e))
 
-pub opening_entries : (s : List ℕ) → catalogue_form s ≡ true → opening s ≡ Entries (byte_at s 0)
+pub opening_entries : (s : List ℕ) → catalogue_form s ≡ true → opening s ≡ Ok (byte_at s 0)
 unfolding opening
 opening_entries s e = unless_given _ _ (passes (ap not e) at_end)
 

@@ -1,7 +1,7 @@
 -- A reader of the old form, word for word as the definitions had it before rows could have Δ: opening, lookup, and the rows handed out. A file with an
 -- entry of the new kind it refuses with 9, and a file without one is read today as it was, with no Δ. By `OldForm`: a file of the first kind fails the
 -- old form, and one of the second passes both forms or neither and has the same entries. Assumes nothing.
-use Rattle.std.specs.Prelude.{◌≡◌, Bool, ◌&&◌, List, [], ◌∷◌, map, ℕ, zero, suc, ◌+◌, ◌*◌, ◌%◌, ◌^◌, eqb, leb, length, drop}
+use Rattle.std.specs.Prelude.{◌≡◌, Bool, ◌&&◌, List, [], ◌∷◌, map, ℕ, zero, suc, ◌+◌, ◌*◌, ◌%◌, ◌^◌, eqb, leb, length, drop, Result, Ok, Err, Option, Some, None}
 use Rattle.std.proofs.Math.Path.{refl, sym, ap, subst}
 use Rattle.std.proofs.Common.{ap₂, ◌∙◌}
 use Rattle.std.proofs.Math.Bool.{true, false, cond, not}
@@ -14,13 +14,8 @@ use Rattle.definitions.specs.Catalogue.{byte_at, number_at, number_size, Entry, 
 use Rattle.definitions.specs.Catalogue.{lookup_part, reader_refusal, reader_top, reader_gaps, t_at, at_row, row_at, next_row, next_place}
 use Rattle.definitions.specs.declared.Refusal.{Refusal}
 use Rattle.definitions.specs.declared.Refusal.TheVariants.{WrongDegree, IllFormedCatalogue, DegreeMissing}
-use Rattle.definitions.specs.declared.Opening.{Opening}
-use Rattle.definitions.specs.declared.Opening.TheVariants.{Entries, Closed}
 use Rattle.definitions.specs.declared.Lookup.{Lookup}
-use Rattle.definitions.specs.declared.Lookup.TheVariants.{Body, NoBody}
 use Rattle.definitions.specs.declared.Row.{Row}
-use Rattle.definitions.specs.declared.NextRow.{NextRow}
-use Rattle.definitions.specs.declared.NextRow.TheVariants.{Found, End}
 use Rattle.answer_laws.specs.Unless.{Decides, here, later, NoneApplies, passes, at_end, Outcome, is_refused, is_given, outcome, unless_refused, unless_given}
 use Rattle.catalogue_laws.specs.Missing.{entry_among}
 use Rattle.catalogue_laws.specs.Outcome.{entry_for}
@@ -51,9 +46,9 @@ pub data OldNextRow : Type 0 where
   OldEnd : OldNextRow
 
 -- The same answers today: the rows have no Δ, and where a row has its place stands 0.
-abbrev pub now_lookup : OldLookup → Lookup
-now_lookup (OldBody top rows) = Body top false rows
-now_lookup (OldNoBody r) = NoBody r
+abbrev pub now_lookup : OldLookup → Result Lookup Refusal
+now_lookup (OldBody top rows) = Ok (record { top = top; gaps = false; rows = rows })
+now_lookup (OldNoBody r) = Err r
 
 abbrev pub now_row : OldRow → Row
 now_row r = record {
@@ -69,14 +64,14 @@ now_row r = record {
   delta = 0;
 }
 
-abbrev pub now_next : OldNextRow → NextRow
-now_next (OldFound r) = Found (now_row r)
-now_next OldEnd = End
+abbrev pub now_next : OldNextRow → Option Row
+now_next (OldFound r) = Some (now_row r)
+now_next OldEnd = None
 
 -- ---- the old calls
 
-unfoldable pub old_opening : List ℕ → Opening
-old_opening s = unless (situation (not (old_catalogue_form s)) IllFormedCatalogue ∷ []) Closed (Entries (byte_at s 0))
+unfoldable pub old_opening : List ℕ → Result ℕ Refusal
+old_opening s = unless (situation (not (old_catalogue_form s)) IllFormedCatalogue ∷ []) Err (Ok (byte_at s 0))
 
 unfoldable pub old_looking : List ℕ → ℕ → List Situation
 old_looking s m =
@@ -133,7 +128,7 @@ old_hands_out (suc n) m top body place = old_next_row m top body place ∷ old_h
 
 -- REFUSED: to a file with an entry that has Δ an old reader says 9, by every call, for every lawful degree.
 module _ (s : List ℕ) (h : HasGaps s) where
-  pub gaps_not_opened : old_opening s ≡ Closed IllFormedCatalogue
+  pub gaps_not_opened : old_opening s ≡ Err IllFormedCatalogue
   unfolding old_opening
   gaps_not_opened = unless_refused _ _ (here (ap not (gaps_not_old s h)))
 
@@ -166,7 +161,7 @@ module _ (m top : ℕ) (body : List ℕ) (place : ℕ) where
   unfolding next_row old_next_row row_at old_row_at
   old_next_row_lem = rw old_at_row_lem (go (old_at_row m top body place))
     where
-      go : (b : Bool) → cond b (Found (row_at m top false body place)) End ≡ now_next (cond b (OldFound (old_row_at m top body place)) OldEnd)
+      go : (b : Bool) → cond b (Some (row_at m top false body place)) None ≡ now_next (cond b (OldFound (old_row_at m top body place)) OldEnd)
       go true = refl
       go false = refl
 
@@ -237,7 +232,7 @@ module _ (s : List ℕ) (h : NoGaps s) where
         let e : entry_for s m ≡ now_entry was = plain_found n in
         let size : body_size (now_entry was) ≡ old_body_size was = ap (λ (k : ℕ). was.rows * k) (old_row_size_lem was.degree was.top) in
         record {
-          numbers_are = unless_given _ _ n ∙ ap (λ (x : Entry). Body x.top x.gaps x.rows) e ∙ sym (ap now_lookup (unless_given _ _ o));
+          numbers_are = unless_given _ _ n ∙ ap (λ (x : Entry). Ok (record { top = x.top; gaps = x.gaps; rows = x.rows })) e ∙ sym (ap now_lookup (unless_given _ _ o));
           part_is =
               unless_given _ _ n
               ∙ ap (λ (x : Entry). take (body_size x) (drop x.offset s)) e

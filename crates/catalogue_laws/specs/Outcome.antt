@@ -1,6 +1,6 @@
 -- The two outcomes of a lookup: an entry that is lawful and of the degree asked, with its numbers and its part; or a refusal, with nothing.
 -- By the three situations of a lookup: the first that applies decides, and where none does the entry is found. Assumes nothing.
-use Rattle.std.specs.Prelude.{◌≡◌, ◌⊎◌, true, false, List, [], ℕ, length, take, drop}
+use Rattle.std.specs.Prelude.{◌≡◌, ◌⊎◌, true, false, List, [], ℕ, length, take, drop, Ok, Err}
 use Rattle.std.proofs.Common.{ap, inl, inr, arith, length-take, length-drop}
 use Rattle.std.proofs.Math.Bool.{not}
 use borrow.Author.Tests.{eqb-false, eq-eqb, ne_eqb, not-false}
@@ -10,7 +10,6 @@ use Rattle.definitions.specs.Catalogue.{Entry, entry_at, contents_end, body_size
 use Rattle.definitions.specs.Catalogue.{reader_top, reader_gaps}
 use Rattle.definitions.specs.declared.Refusal.{Refusal}
 use Rattle.definitions.specs.declared.Refusal.TheVariants.{WrongDegree, IllFormedCatalogue, DegreeMissing}
-use Rattle.definitions.specs.declared.Lookup.TheVariants.{Body, NoBody}
 use Rattle.answer_laws.specs.Unless.{Decides, here, later, NoneApplies, passes, at_end, Outcome, is_refused, is_given, outcome, unless_refused, unless_given}
 use Rattle.catalogue_laws.specs.Lookup.{FoundEntry, entry_found}
 
@@ -55,7 +54,7 @@ module _ (s : List ℕ) (m : ℕ) where
 
 pub record Given (s : List ℕ) (m : ℕ) : Type 0 where
   pub finds : Finds s m
-  pub numbers_are : lookup_numbers s m ≡ Body (entry_for s m).top (entry_for s m).gaps (entry_for s m).rows
+  pub numbers_are : lookup_numbers s m ≡ Ok (record { top = (entry_for s m).top; gaps = (entry_for s m).gaps; rows = (entry_for s m).rows })
   pub part_is : lookup_part s m ≡ take (body_size (entry_for s m)) (drop (entry_for s m).offset s)
   pub refusal_is : reader_refusal s m ≡ 0
   pub top_is : reader_top s m ≡ (entry_for s m).top
@@ -63,7 +62,7 @@ pub record Given (s : List ℕ) (m : ℕ) : Type 0 where
 
 pub record Refused (s : List ℕ) (m : ℕ) : Type 0 where
   pub refusal : Refusal
-  pub numbers_are : lookup_numbers s m ≡ NoBody refusal
+  pub numbers_are : lookup_numbers s m ≡ Err refusal
   pub part_is : lookup_part s m ≡ []
   pub refusal_is : reader_refusal s m ≡ refusal_number refusal
   pub top_is : reader_top s m ≡ 0

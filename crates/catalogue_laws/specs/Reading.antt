@@ -1,6 +1,6 @@
 -- Reading a body: when a place is the start of a whole row, as a walk tests it, and what that says.
 -- Each test of `at_row` by its definition; the first that fails decides. Assumes nothing.
-use Rattle.std.specs.Prelude.{◌≡◌, Bool, true, false, List, ℕ, ◌+◌, ◌-◌, ◌*◌, ◌%◌, ◌^◌, ◌<◌, ◌≤◌, leb, length}
+use Rattle.std.specs.Prelude.{◌≡◌, Bool, true, false, List, ℕ, ◌+◌, ◌-◌, ◌*◌, ◌%◌, ◌^◌, ◌<◌, ◌≤◌, leb, length, Some, None}
 use Rattle.std.proofs.Common.{sym, ◌∙◌, arith}
 use Rattle.std.proofs.Math.Bool.{and-eq-true_iff}
 use Rattle.std.proofs.Math.Decide.{dec_le}
@@ -8,7 +8,6 @@ use borrow.Author.Tests.{leb-true, eqb-true, lt-leb, le-leb, eq-eqb, ne_eqb}
 use Rattle.definitions.specs.Generator.{lawful_degree}
 use Rattle.definitions.specs.Ranking.{least_top, lawful_top}
 use Rattle.definitions.specs.Catalogue.{number_at, number_size, numbers_size, values_size, row_size, at_row, row_at, next_row, next_place, byte_at, t_at, delta_at}
-use Rattle.definitions.specs.declared.NextRow.TheVariants.{Found, End}
 use Rattle.number_laws.specs.Bounds.{LawfulDegree, LawfulTop, lawful_degree_is, lawful_top_is}
 
 -- What is left behind a place holds w bytes.
@@ -63,11 +62,11 @@ module _ (m top : ℕ) (gaps : Bool) (body : List ℕ) (place : ℕ) where
         whole = leb-true _ _ c.1;
       }
 
-  pub next_end : at_row m top gaps body place ≡ false → next_row m top gaps body place ≡ End
+  pub next_end : at_row m top gaps body place ≡ false → next_row m top gaps body place ≡ None
   unfolding next_row
   next_end e = rw e
 
-  pub next_found : at_row m top gaps body place ≡ true → next_row m top gaps body place ≡ Found (row_at m top gaps body place)
+  pub next_found : at_row m top gaps body place ≡ true → next_row m top gaps body place ≡ Some (row_at m top gaps body place)
   unfolding next_row
   next_found e = rw e
 

@@ -1,7 +1,7 @@
 -- A catalogue that is made of lawful lists opens with their number, and a lookup of a listed degree gives back its list: the numbers, the body,
 -- and a reader that hands out its rows. Degrees ascend, so the entry of a degree is the one that was made of its list.
 -- Assumes nothing.
-use Rattle.std.specs.Prelude.{◌≡◌, refl, false, ℕ, zero, suc, ◌+◌, ◌*◌, ◌<◌, ◌≤◌, length, take, drop, replicate}
+use Rattle.std.specs.Prelude.{◌≡◌, refl, false, ℕ, zero, suc, ◌+◌, ◌*◌, ◌<◌, ◌≤◌, length, take, drop, replicate, Ok, Option, Some, None}
 use Rattle.std.proofs.Common.{sym, ap₂, ◌∙◌, subst, zero-add, arith}
 use Rattle.std.proofs.Math.Path.{ap}
 use mathlib.Core.List.{List, [], ◌∷◌, ◌++◌, map}
@@ -9,12 +9,9 @@ use Rattle.std.proofs.Math.ListN.{get_or}
 use Rattle.definitions.specs.Number.{numbers}
 use Rattle.definitions.specs.Catalogue.{byte_at, entry_size, row_size, Entry, entry_at, first_entry, body_size, row_at, entry_from, entry_of, opening, lookup_numbers}
 use Rattle.definitions.specs.Catalogue.{lookup_part, reader_top, reader_gaps}
-use Rattle.definitions.specs.declared.NextRow.{NextRow}
-use Rattle.definitions.specs.declared.NextRow.TheVariants.{Found, End}
-use Rattle.definitions.specs.declared.Opening.TheVariants.{Entries}
-use Rattle.definitions.specs.declared.Lookup.TheVariants.{Body}
 use Rattle.number_laws.specs.Bounds.{lawful_degree_is}
 use Rattle.definitions.specs.Writing.{row_bytes, Listed, body_bytes, behind_lists, catalogue_bytes}
+use Rattle.definitions.specs.declared.Row.{Row}
 use Rattle.catalogue_laws.specs.Rows.{row_of}
 use Rattle.catalogue_laws.specs.Form.{entry_at_degree}
 use Rattle.catalogue_laws.specs.Lookup.{entry_of_lem, look_stop, look_behind, opening_entries}
@@ -87,7 +84,7 @@ lists_placed s {ls = x ∷ ls} i at (more a h f) p (suc j) l =
     (lists_placed s (i + entry_size x.degree) (at + length (body_bytes x)) f (laid_rest s x ls i at p) j (omega arith))
 
 -- A function of the numbers from k on, where it gives what another gives of a list's elements.
-map_numbers : (f : ℕ → NextRow) (g : List ℕ → NextRow) (rows : List (List ℕ)) (k : ℕ)
+map_numbers : (f : ℕ → Option Row) (g : List ℕ → Option Row) (rows : List (List ℕ)) (k : ℕ)
     → ((i : ℕ) → i < length rows → f (k + i) ≡ g (get_or rows i [])) → map f (numbers k (length rows)) ≡ map g rows
 unfolding numbers
 map_numbers f g [] k h = refl
@@ -102,8 +99,8 @@ module _ (ls : List Listed) (h : LawfulLists 0 ls) where
   abbrev file : List ℕ
   file = catalogue_bytes ls
 
-  pub written_opens : opening file ≡ Entries (length ls)
-  written_opens = opening_entries file (catalogue_written ls h) ∙ ap Entries (catalogue_count ls h)
+  pub written_opens : opening file ≡ Ok (length ls)
+  written_opens = opening_entries file (catalogue_written ls h) ∙ ap Ok (catalogue_count ls h)
 
   module _ (j : ℕ) (l : j < length ls) where
     abbrev x : Listed
@@ -124,8 +121,8 @@ module _ (ls : List Listed) (h : LawfulLists 0 ls) where
     entry_given : entry_at file (entry_of file x.degree) ≡ entry_of_list x placed.body_place
     entry_given = ap (entry_at file) entry_found_at ∙ placed.is
 
-    pub written_numbers : lookup_numbers file x.degree ≡ Body x.top x.gaps (length x.rows)
-    written_numbers = given_back.numbers_are ∙ ap (λ (e : Entry). Body e.top e.gaps e.rows) entry_given
+    pub written_numbers : lookup_numbers file x.degree ≡ Ok (record { top = x.top; gaps = x.gaps; rows = length x.rows })
+    written_numbers = given_back.numbers_are ∙ ap (λ (e : Entry). Ok (record { top = e.top; gaps = e.gaps; rows = e.rows })) entry_given
 
     pub written_part : lookup_part file x.degree ≡ body_bytes x
     written_part =
@@ -148,19 +145,19 @@ module _ (ls : List Listed) (h : LawfulLists 0 ls) where
         row_written m x.top x.gaps row (body_bytes x) (k * size) d.degree_is_lawful d.top_is_lawful (d.each k r)
         (subst (λ (n : ℕ). Stands (body_bytes x) n (row_bytes m row)) (zero-add (k * size)) p)
 
-    rows_given : body_rows x.degree x.top x.gaps (body_bytes x) 0 (length x.rows) ≡ map (λ (r : List ℕ). Found (row_of x.top x.gaps r)) x.rows
+    rows_given : body_rows x.degree x.top x.gaps (body_bytes x) 0 (length x.rows) ≡ map (λ (r : List ℕ). Some (row_of x.top x.gaps r)) x.rows
     unfolding body_rows
     rows_given =
         let size = row_size x.degree x.top x.gaps in
-        map_numbers (λ (i : ℕ). Found (row_at x.degree x.top x.gaps (body_bytes x) (i * size)))
-        (λ (r : List ℕ). Found (row_of x.top x.gaps r)) x.rows 0
-        (λ i a. ap Found (ap (λ (k : ℕ). row_at x.degree x.top x.gaps (body_bytes x) (k * size)) (zero-add i) ∙ row_given i a))
+        map_numbers (λ (i : ℕ). Some (row_at x.degree x.top x.gaps (body_bytes x) (i * size)))
+        (λ (r : List ℕ). Some (row_of x.top x.gaps r)) x.rows 0
+        (λ i a. ap Some (ap (λ (k : ℕ). row_at x.degree x.top x.gaps (body_bytes x) (k * size)) (zero-add i) ∙ row_given i a))
 
     -- A reader hands out the listed rows, and then the end.
     pub written_rows : (n : ℕ)
         → hands_out (length x.rows + n) x.degree (reader_top file x.degree) (reader_gaps file x.degree) (lookup_part file x.degree) 0
-        ≡ map (λ (r : List ℕ). Found (row_of x.top x.gaps r)) x.rows ++ replicate n End
+        ≡ map (λ (r : List ℕ). Some (row_of x.top x.gaps r)) x.rows ++ replicate n None
     written_rows n =
         reader_hands_out file x.degree x.top x.gaps (length x.rows) n written_numbers
-        ∙ ap (λ (b : List ℕ). body_rows x.degree x.top x.gaps b 0 (length x.rows) ++ replicate n End) written_part
-        ∙ ap (λ (r : List NextRow). r ++ replicate n End) rows_given
+        ∙ ap (λ (b : List ℕ). body_rows x.degree x.top x.gaps b 0 (length x.rows) ++ replicate n None) written_part
+        ∙ ap (λ (r : List (Option Row)). r ++ replicate n None) rows_given

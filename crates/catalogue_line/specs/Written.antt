@@ -1,7 +1,7 @@
 -- What the program writes for the numbers of a line, the floor and then the entries, by what the call that writes a catalogue answers. The buffer holds
 -- any file, so refusal 14 cannot come (`writing-entering`): entries that pass the tests before it are lawful, and no file of such is longer
 -- (`Longest`). The situations that are left are those by which both outputs are defined. Assumes nothing.
-use Rattle.std.specs.Prelude.{◌≡◌, true, not, ℕ, ◌-◌, ◌≤◌, ◌<◌, get_or, take, drop, ltb}
+use Rattle.std.specs.Prelude.{◌≡◌, true, not, ℕ, ◌-◌, ◌≤◌, ◌<◌, get_or, take, drop, ltb, Ok, Err}
 use Rattle.std.proofs.Math.Path.{refl, sym, ap}
 use Rattle.std.proofs.Common.{◌∙◌, arith, take_all, le-ltb}
 use mathlib.Core.List.{List, [], ◌∷◌}
@@ -14,7 +14,6 @@ use Rattle.definitions.specs.Writing.{entries_of, ranked_file, entering, writing
 use Rattle.definitions.specs.Writing.{lawful_degrees, lawful_tops, ascending, file_output, file_errors}
 use Rattle.definitions.specs.declared.Refusal.{Refusal}
 use Rattle.definitions.specs.declared.Refusal.TheVariants.{FileTooLong}
-use Rattle.definitions.specs.declared.FileAnswer.TheVariants.{File, NoFile}
 use Rattle.answer_laws.specs.Unless.{passes, at_end, Outcome, is_refused, is_given, outcome, unless_refused, unless_given}
 use Rattle.answer_laws.specs.Unless.{unless_passes, unless_append, told_given, told_refused}
 use Rattle.slice_laws.specs.Over.{over_nothing}
@@ -85,16 +84,16 @@ module _ (floor : ℕ) (e : List ℕ) where
   errors_are = refl
 
   module _ (file text : List ℕ) (room : longest_file ≤ length file) where
-    answer_is : file_answer floor e file ≡ unless (tests floor e) NoFile (File (length whole))
+    answer_is : file_answer floor e file ≡ unless (tests floor e) Err (Ok (length whole))
     unfolding file_answer
-    answer_is = writing_entering floor e file room NoFile (File (length whole))
+    answer_is = writing_entering floor e file room Err (Ok (length whole))
 
     buffer_is : file_buffer floor e file ≡ unless (tests floor e) (λ (n : Refusal). file) (over 0 whole file)
     unfolding file_buffer
     buffer_is = writing_entering floor e file room (λ (n : Refusal). file) (over 0 whole file)
 
     -- A file is given: it is written, and nothing is said.
-    pub outputs_file : {n : ℕ} {file' : List ℕ} → file_answer floor e file ≡ File n → file' ≡ file_buffer floor e file
+    pub outputs_file : {n : ℕ} {file' : List ℕ} → file_answer floor e file ≡ Ok n → file' ≡ file_buffer floor e file
         → Outputs (floor ∷ e) file text (record { file = n; text = 0 }) file' text
     outputs_file {n} a b =
         let t = told_given (tests floor e) (sym answer_is ∙ a) (λ r d. let z : ◌≡◌ {A = ℕ} 0 1 = cc in omega arith) in
@@ -108,7 +107,7 @@ module _ (floor : ℕ) (e : List ℕ) where
         (sym (over_nothing 0 text))
 
     -- A refusal: nothing is written, and its line is said.
-    pub outputs_refused : {n : Refusal} {r : Output} {file' text' : List ℕ} → file_answer floor e file ≡ NoFile n → file' ≡ file_buffer floor e file
+    pub outputs_refused : {n : Refusal} {r : Output} {file' text' : List ℕ} → file_answer floor e file ≡ Err n → file' ≡ file_buffer floor e file
         → r ≡ record { file = 0; text = length (said n) } → text' ≡ over 0 (said n) text → Outputs (floor ∷ e) file text r file' text'
     outputs_refused {n} a b x z =
         let t = told_refused (tests floor e) (sym answer_is ∙ a) (λ d. let z : ◌≡◌ {A = ℕ} 0 1 = cc in omega arith) in

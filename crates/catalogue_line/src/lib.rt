@@ -9,8 +9,6 @@ ghost use Rattle.definitions.specs.Writing.{file_numbers, file_output, file_erro
 ghost use Rattle.list_lines.specs.Texts.{refused_room};
 ghost use Rattle.writing_laws.specs.Longest.{longest_file};
 
-use definitions::FileAnswer;
-
 // The floor, and a degree and T for each lawful degree.
 const MOST_NUMBERS: usize = 1 + 2 * catalogue_form::MOST_ENTRIES;
 
@@ -53,11 +51,11 @@ fn write(numbers: &[u32], file: &mut [u8], text: &mut [u8]) -> Output
     ensures text_after { text.new ≡ over 0 (file_errors numbers.now) text.old }
 {
     match catalogue_writer::write(numbers[0], &numbers[1..], file) {
-        FileAnswer::File(length) => Output {
+        Ok(length) => Output {
             file: length,
             text: 0,
         },
-        FileAnswer::NoFile(refusal) => refuse(text, answers::refusal_number(refusal)),
+        Err(refusal) => refuse(text, answers::refusal_number(refusal)),
     }
 }
 

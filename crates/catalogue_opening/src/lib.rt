@@ -3,8 +3,6 @@
 
 ghost use Rattle.catalogue_opening.specs.Opened.{Opened};
 
-use catalogue_seek::Located;
-
 // The number of the refusal, 0 where there is none; the part's place in the file, its size, T, and whether the rows have Δ.
 #[derive(Clone, Copy)]
 pub struct OpenedPart {
@@ -20,14 +18,14 @@ pub fn opened(file: &[u8], degree: u32) -> OpenedPart
     ensures { Opened file.now degree result }
 {
     match catalogue_seek::locate(file, degree) {
-        Located::At(found) => OpenedPart {
+        Ok(found) => OpenedPart {
             refusal: 0,
             offset: found.offset,
             size: found.size,
             top: found.top,
             gaps: found.gaps,
         },
-        Located::Missing(refusal) => {
+        Err(refusal) => {
             let number = answers::refusal_number(refusal);
             OpenedPart {
                 refusal: number,

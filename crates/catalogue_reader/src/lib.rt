@@ -6,7 +6,7 @@ pub mod part;
 ghost use Rattle.std.specs.Prelude.{◌≡◌};
 ghost use Rattle.definitions.specs.Catalogue.{lookup_part, reader_refusal, reader_top, reader_gaps, next_row, next_place};
 
-use definitions::{NextRow, Reader};
+use definitions::{Reader, Row};
 
 // A reader of a degree's body, at its first row. Where the lookup is refused it has the number and the empty part, and is at the end.
 pub fn reader<'a>(file: &'a [u8], degree: u32) -> Reader<'a>
@@ -32,7 +32,7 @@ pub fn reader<'a>(file: &'a [u8], degree: u32) -> Reader<'a>
 }
 
 // The row that a reader is at, or the end.
-pub fn next<'a>(at: Reader<'a>) -> NextRow
+pub fn next<'a>(at: Reader<'a>) -> Option<Row>
     ensures { result ≡ next_row at.entry.degree at.entry.top at.entry.gaps at.entry.body.now at.entry.place }
 {
     catalogue_rows::row_at(at.body, at.degree, at.top, at.gaps, at.place)

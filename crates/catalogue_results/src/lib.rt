@@ -5,8 +5,8 @@ ghost use Rattle.std.specs.Prelude.{◌≡◌};
 ghost use Rattle.definitions.specs.Answers.{opening_values, file_values};
 ghost use Rattle.catalogue_results.specs.Results.{catalogue_result, body_result, file_result};
 
-use catalogue_seek::Located;
-use definitions::{FileAnswer, Opening};
+use catalogue_seek::BodyPlace;
+use definitions::Refusal;
 
 // How many degrees a catalogue has.
 #[repr(C)]
@@ -16,18 +16,20 @@ pub struct FenyurkaCatalogue {
     pub entries: u32,
 }
 
-pub fn catalogue(answer: Opening) -> FenyurkaCatalogue
-    ensures { result ≡ catalogue_result (opening_values answer) }
-{
-    match answer {
-        Opening::Entries(entries) => FenyurkaCatalogue {
-            refusal: 0,
-            entries,
-        },
-        Opening::Closed(refusal) => FenyurkaCatalogue {
-            refusal: answers::refusal_number(refusal),
-            entries: 0,
-        },
+impl From<Result<u32, Refusal>> for FenyurkaCatalogue {
+    ghost from_gives = { λ answer r. r ≡ catalogue_result (opening_values answer) };
+
+    fn from(answer: Result<u32, Refusal>) -> FenyurkaCatalogue {
+        match answer {
+            Ok(entries) => FenyurkaCatalogue {
+                refusal: 0,
+                entries,
+            },
+            Err(refusal) => FenyurkaCatalogue {
+                refusal: answers::refusal_number(refusal),
+                entries: 0,
+            },
+        }
     }
 }
 
@@ -44,28 +46,30 @@ pub struct FenyurkaBody {
     pub row_size: usize,
 }
 
-pub fn body(answer: Located) -> FenyurkaBody
-    ensures { result ≡ body_result answer }
-{
-    match answer {
-        Located::At(found) => FenyurkaBody {
-            refusal: 0,
-            top: found.top,
-            gaps: slice_results::truth(found.gaps),
-            rows: found.rows,
-            offset: found.offset,
-            length: found.size,
-            row_size: found.stride,
-        },
-        Located::Missing(refusal) => FenyurkaBody {
-            refusal: answers::refusal_number(refusal),
-            top: 0,
-            gaps: 0,
-            rows: 0,
-            offset: 0,
-            length: 0,
-            row_size: 0,
-        },
+impl From<Result<BodyPlace, Refusal>> for FenyurkaBody {
+    ghost from_gives = { λ answer r. r ≡ body_result answer };
+
+    fn from(answer: Result<BodyPlace, Refusal>) -> FenyurkaBody {
+        match answer {
+            Ok(found) => FenyurkaBody {
+                refusal: 0,
+                top: found.top,
+                gaps: u32::from(found.gaps),
+                rows: found.rows,
+                offset: found.offset,
+                length: found.size,
+                row_size: found.stride,
+            },
+            Err(refusal) => FenyurkaBody {
+                refusal: answers::refusal_number(refusal),
+                top: 0,
+                gaps: 0,
+                rows: 0,
+                offset: 0,
+                length: 0,
+                row_size: 0,
+            },
+        }
     }
 }
 
@@ -77,14 +81,16 @@ pub struct FenyurkaFile {
     pub length: usize,
 }
 
-pub fn file(answer: FileAnswer) -> FenyurkaFile
-    ensures { result ≡ file_result (file_values answer) }
-{
-    match answer {
-        FileAnswer::File(length) => FenyurkaFile { refusal: 0, length },
-        FileAnswer::NoFile(refusal) => FenyurkaFile {
-            refusal: answers::refusal_number(refusal),
-            length: 0,
-        },
+impl From<Result<usize, Refusal>> for FenyurkaFile {
+    ghost from_gives = { λ answer r. r ≡ file_result (file_values answer) };
+
+    fn from(answer: Result<usize, Refusal>) -> FenyurkaFile {
+        match answer {
+            Ok(length) => FenyurkaFile { refusal: 0, length },
+            Err(refusal) => FenyurkaFile {
+                refusal: answers::refusal_number(refusal),
+                length: 0,
+            },
+        }
     }
 }

@@ -7,16 +7,16 @@ ghost use Rattle.std.specs.Prelude.{◌≡◌};
 ghost use Rattle.definitions.specs.Catalogue.{next_row, next_place};
 
 use catalogue_bytes::sizes;
-use definitions::NextRow;
+use definitions::Row;
 
 // The row at a place of a body, p with its leading term, or the end.
-pub fn row_at(body: &[u8], degree: u32, top: u32, gaps: bool, place: usize) -> NextRow
+pub fn row_at(body: &[u8], degree: u32, top: u32, gaps: bool, place: usize) -> Option<Row>
     ensures { result ≡ next_row degree top gaps body.now place }
 {
     if !rows::at_row(body, degree, top, gaps, place) {
-        return NextRow::End;
+        return None;
     }
-    NextRow::Found(row_reading::decode(body, degree, top, gaps, place))
+    Some(row_reading::decode(body, degree, top, gaps, place))
 }
 
 // The place behind the row at a place; at the end it stays.

@@ -20,13 +20,6 @@ pub struct BodyPlace {
     pub rows: u32,
 }
 
-// Where a degree's body is, or why the lookup is refused.
-#[derive(Clone, Copy)]
-pub enum Located {
-    At(BodyPlace),
-    Missing(Refusal),
-}
-
 // The place of the degree's entry; 0, where no entry lies, where it is missing.
 pub fn entry_of(s: &[u8], degree: u32) -> usize
     requires { (1 ≤ length s.now) × (contents_end s.now ≤ length s.now) }
@@ -45,21 +38,22 @@ pub fn entry_of(s: &[u8], degree: u32) -> usize
     0
 }
 
-pub fn locate(file: &[u8], degree: u32) -> Located
+// Where a degree's body is, or why the lookup is refused.
+pub fn locate(file: &[u8], degree: u32) -> Result<BodyPlace, Refusal>
     ensures { result ≡ locating file.now degree }
 {
     if !limits::is_lawful_degree(degree) {
-        return Located::Missing(Refusal::WrongDegree);
+        return Err(Refusal::WrongDegree);
     }
     if !catalogue_form::catalogue_form(file) {
-        return Located::Missing(Refusal::IllFormedCatalogue);
+        return Err(Refusal::IllFormedCatalogue);
     }
     let place = entry_of(file, degree);
     if place == 0 {
-        return Located::Missing(Refusal::DegreeMissing);
+        return Err(Refusal::DegreeMissing);
     }
     let e = entry_reading::entry_at(file, place);
-    Located::At(BodyPlace {
+    Ok(BodyPlace {
         offset: e.offset as usize,
         size: entry_reading::body_size(e),
         stride: sizes::row_size(e.degree, e.top, e.gaps),

@@ -12,26 +12,26 @@ ghost use Rattle.fraction_laws.specs.WellFormed.{WellFormed};
 ghost use Rattle.counting_laws.specs.Shapes.{every_shape};
 ghost use Rattle.counting_laws.specs.Points.{Digits, Built, Begun, fills_evenly};
 
-use definitions::{Refusal, Uniformity};
+use definitions::Refusal;
 use polynomial::digits;
 use polynomial::residues::Residues;
 use word_tables::word;
 
 // The t-value of a pair, or refusal 1, for a degree that is not 2 to 8, 2 or 3.
-pub fn count_t_value(degree: u32, p: u32, q: u32, dimension: u32) -> Uniformity
+pub fn count_t_value(degree: u32, p: u32, q: u32, dimension: u32) -> Result<u32, Refusal>
     ensures { result ≡ counted degree p q dimension }
 {
     if !limits::is_counted_degree(degree) {
-        return Uniformity::Undefined(Refusal::WrongDegree);
+        return Err(Refusal::WrongDegree);
     }
     if !limits::is_lawful_dimension(dimension) {
-        return Uniformity::Undefined(Refusal::WrongDimension);
+        return Err(Refusal::WrongDimension);
     }
     if !verdicts::is_well_formed(degree, p, q) {
-        return Uniformity::Undefined(Refusal::IllFormedPair);
+        return Err(Refusal::IllFormedPair);
     }
     let points = build_points(degree, p, q);
-    Uniformity::Value(smallest_t(&points, dimension as usize, degree))
+    Ok(smallest_t(&points, dimension as usize, degree))
 }
 
 // All 2^m points, 256 at most with eight coordinates each: coordinate j of the point h stands at j 2^m + h.

@@ -15,12 +15,11 @@ pub struct Cursor {
     pub position: Position,
 }
 
-// What was handed out: how many rows, whether rows are left, and the cursor behind them.
+// What was handed out: how many rows, and the cursor behind them where rows are left.
 #[derive(Clone, Copy)]
 pub struct Portion {
     pub rows: usize,
-    pub more: bool,
-    pub next: Cursor,
+    pub next: Option<Cursor>,
 }
 
 // Before the first row of a list.
@@ -48,24 +47,18 @@ pub fn next(at: Cursor, out: &mut [u32]) -> Portion
     requires { OnList at × (row_width at.list ≤ length out.old) }
     ensures { Handed at out.old result out.new }
 {
-    let list = at.list;
-    let position = at.position;
-    let served = serve::fill(list, position, out);
+    let served = serve::fill(at.list, at.position, out);
     let rows = served.rows;
-    if rows == 0 {
-        return Portion {
-            rows: 0,
-            more: false,
-            next: at,
-        };
+    if !served.further {
+        return Portion { rows, next: None };
     }
+    let last = (rows - 1) * width_of(at.list);
     let behind = Cursor {
-        list: list,
-        position: after_row(out, (rows - 1) * width_of(list)),
+        list: at.list,
+        position: after_row(out, last),
     };
     Portion {
-        rows: rows,
-        more: served.further,
-        next: behind,
+        rows,
+        next: Some(behind),
     }
 }

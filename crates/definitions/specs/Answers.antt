@@ -1,10 +1,9 @@
 -- Refusals: their numbers, the situations in which they are given, and the values of each answer. Assumes nothing.
 use Rattle.std.specs.Prelude.{◌∷◌}
 use Rattle.definitions.specs.Base.{Bool, true, false, List, [], ℕ, Refusal, WrongDegree, WrongDimension, IllFormedPair, NotPrimitive}
-use Rattle.definitions.specs.Base.{QuotientNotLinear, StepNotCoprime, ShortSlice, BeyondPeriod, IllFormedCatalogue, DegreeMissing, Judgement}
-use Rattle.definitions.specs.Base.{Accepted, Rejected, Uniformity, Value, Undefined, PageAnswer, Page, NoPage, PointsAnswer, Written}
-use Rattle.definitions.specs.Base.{NotWritten, Opening, Entries, Closed, Lookup, Body, NoBody, Row, NextRow, Found, End, NotAscending, FileTooLong}
-use Rattle.definitions.specs.Base.{FileAnswer, File, NoFile, QuotientTest, Degrees, Untested, StepBelowFloor, WrongFloor, GapSum, Sum, NoSum}
+use Rattle.definitions.specs.Base.{QuotientNotLinear, StepNotCoprime, ShortSlice, BeyondPeriod, IllFormedCatalogue, DegreeMissing}
+use Rattle.definitions.specs.Base.{StepBelowFloor, WrongFloor, NotAscending, FileTooLong, Result, Ok, Err, Option, Some, None}
+use Rattle.definitions.specs.Base.{QuotientDegrees, Page, Lookup, Row}
 use Rattle.definitions.specs.Number.{bit}
 
 -- The number of each refusal, as documents 01 and 02 have it.
@@ -56,47 +55,47 @@ unless (s ∷ l) refuse value = elim s.applies [ true ↦ refuse s.refusal | fal
 
 -- What each answer holds, as the documents' numbers: the refusal's number, 0 where there is none; of a call that judges a pair what the refusal
 -- carries, 0 where there is none; and then the values.
-abbrev pub judgement_values : Judgement → List ℕ
-judgement_values (Accepted s) = 0 ∷ 0 ∷ s ∷ []
-judgement_values (Rejected r) = refusal_number r ∷ refusal_degree r ∷ []
+abbrev pub judgement_values : Result ℕ Refusal → List ℕ
+judgement_values (Ok s) = 0 ∷ 0 ∷ s ∷ []
+judgement_values (Err r) = refusal_number r ∷ refusal_degree r ∷ []
 
-abbrev pub quotient_test_values : QuotientTest → List ℕ
-quotient_test_values (Degrees k common) = 0 ∷ k ∷ common ∷ []
-quotient_test_values (Untested r) = refusal_number r ∷ []
+abbrev pub quotient_test_values : Result QuotientDegrees Refusal → List ℕ
+quotient_test_values (Ok d) = 0 ∷ d.quotient ∷ d.common ∷ []
+quotient_test_values (Err r) = refusal_number r ∷ []
 
-abbrev pub uniformity_values : Uniformity → List ℕ
-uniformity_values (Value t) = 0 ∷ t ∷ []
-uniformity_values (Undefined r) = refusal_number r ∷ []
+abbrev pub uniformity_values : Result ℕ Refusal → List ℕ
+uniformity_values (Ok t) = 0 ∷ t ∷ []
+uniformity_values (Err r) = refusal_number r ∷ []
 
-abbrev pub gap_sum_values : GapSum → List ℕ
-gap_sum_values (Sum d) = 0 ∷ d ∷ []
-gap_sum_values (NoSum r) = refusal_number r ∷ []
+abbrev pub gap_sum_values : Result ℕ Refusal → List ℕ
+gap_sum_values (Ok d) = 0 ∷ d ∷ []
+gap_sum_values (Err r) = refusal_number r ∷ []
 
-abbrev pub page_values : PageAnswer → List ℕ
-page_values (Page n further) = 0 ∷ 0 ∷ n ∷ bit further ∷ []
-page_values (NoPage r) = refusal_number r ∷ refusal_degree r ∷ []
+abbrev pub page_values : Result Page Refusal → List ℕ
+page_values (Ok x) = 0 ∷ 0 ∷ x.rows ∷ bit x.further ∷ []
+page_values (Err r) = refusal_number r ∷ refusal_degree r ∷ []
 
-abbrev pub points_values : PointsAnswer → List ℕ
-points_values (Written n) = 0 ∷ 0 ∷ n ∷ []
-points_values (NotWritten r) = refusal_number r ∷ refusal_degree r ∷ []
+abbrev pub points_values : Result ℕ Refusal → List ℕ
+points_values (Ok n) = 0 ∷ 0 ∷ n ∷ []
+points_values (Err r) = refusal_number r ∷ refusal_degree r ∷ []
 
-abbrev pub opening_values : Opening → List ℕ
-opening_values (Entries n) = 0 ∷ n ∷ []
-opening_values (Closed r) = refusal_number r ∷ []
+abbrev pub opening_values : Result ℕ Refusal → List ℕ
+opening_values (Ok n) = 0 ∷ n ∷ []
+opening_values (Err r) = refusal_number r ∷ []
 
-abbrev pub lookup_values : Lookup → List ℕ
-lookup_values (Body top gaps rows) = 0 ∷ top ∷ bit gaps ∷ rows ∷ []
-lookup_values (NoBody r) = refusal_number r ∷ []
+abbrev pub lookup_values : Result Lookup Refusal → List ℕ
+lookup_values (Ok b) = 0 ∷ b.top ∷ bit b.gaps ∷ b.rows ∷ []
+lookup_values (Err r) = refusal_number r ∷ []
 
 -- p, q, σ, t(3) .. t(8), Δ.
 abbrev pub row_numbers : Row → List ℕ
 row_numbers r = r.p ∷ r.q ∷ r.step ∷ r.t3 ∷ r.t4 ∷ r.t5 ∷ r.t6 ∷ r.t7 ∷ r.t8 ∷ r.delta ∷ []
 
 -- No row is refused; at the end there are no values.
-abbrev pub next_row_values : NextRow → List ℕ
-next_row_values (Found r) = 0 ∷ row_numbers r
-next_row_values End = 0 ∷ []
+abbrev pub next_row_values : Option Row → List ℕ
+next_row_values (Some r) = 0 ∷ row_numbers r
+next_row_values None = 0 ∷ []
 
-abbrev pub file_values : FileAnswer → List ℕ
-file_values (File n) = 0 ∷ n ∷ []
-file_values (NoFile r) = refusal_number r ∷ []
+abbrev pub file_values : Result ℕ Refusal → List ℕ
+file_values (Ok n) = 0 ∷ n ∷ []
+file_values (Err r) = refusal_number r ∷ []

@@ -4,8 +4,7 @@ use Rattle.std.specs.Prelude.{◌&&◌, ◌∷◌, ◌++◌, ◌-◌, ◌/◌}
 use Rattle.definitions.specs.Base.{Bool, not, List, [], ℕ, min, leb, ltb, length, Refusal, WrongDegree, WrongDimension}
 use Rattle.definitions.specs.Base.{IllFormedPair, NotPrimitive, QuotientNotLinear, StepNotCoprime, StepBelowFloor, WrongFloor, ShortSlice, BeyondPeriod}
 use Rattle.definitions.specs.Base.{Selection}
-use Rattle.definitions.specs.Base.{Position, Start, After, PageRequest, Judgement, Accepted, Rejected, Uniformity, Value, Undefined, PageAnswer}
-use Rattle.definitions.specs.Base.{Page, NoPage, PointsAnswer, Written, NotWritten, QuotientTest, Degrees, Untested, GapSum, Sum, NoSum}
+use Rattle.definitions.specs.Base.{Position, Start, After, PageRequest, Result, Ok, Err, QuotientDegrees, Page}
 use Rattle.definitions.specs.Number.{join, over}
 use Rattle.definitions.specs.Answers.{Situation, situation, unless}
 use Rattle.definitions.specs.Generator.{least_degree, lawful_degree, lawful_floor, well_formed, period, primitive, linear_quotients, quotient_degree}
@@ -31,15 +30,15 @@ unfoldable pub judging : ℕ → ℕ → ℕ → ℕ → List Situation
 judging m floor p q =
     situation (not (lawful_degree m)) WrongDegree ∷ situation (not (lawful_floor floor)) WrongFloor ∷ pair_situations m floor p q
 
-unfoldable pub judgement : ℕ → ℕ → ℕ → ℕ → Judgement
-judgement m floor p q = unless (judging m floor p q) Rejected (Accepted (step m p q))
+unfoldable pub judgement : ℕ → ℕ → ℕ → ℕ → Result ℕ Refusal
+judgement m floor p q = unless (judging m floor p q) Err (Ok (step m p q))
 
 -- The quotient test: 1, 3; else K and the degree of the common factor.
 unfoldable pub testing : ℕ → ℕ → ℕ → List Situation
 testing m p q = situation (not (lawful_degree m)) WrongDegree ∷ situation (not (well_formed m p q)) IllFormedPair ∷ []
 
-unfoldable pub quotient_test : ℕ → ℕ → ℕ → QuotientTest
-quotient_test m p q = unless (testing m p q) Untested (Degrees (quotient_degree p q) (common_degree p q))
+unfoldable pub quotient_test : ℕ → ℕ → ℕ → Result QuotientDegrees Refusal
+quotient_test m p q = unless (testing m p q) Err (Ok (record { quotient = quotient_degree p q; common = common_degree p q }))
 
 -- A single t-value: 1 to 3; else the t-value.
 unfoldable pub measuring : ℕ → ℕ → ℕ → ℕ → List Situation
@@ -49,8 +48,8 @@ measuring m p q s =
     ∷ situation (not (well_formed m p q)) IllFormedPair
     ∷ []
 
-unfoldable pub uniformity : ℕ → ℕ → ℕ → ℕ → Uniformity
-uniformity m p q s = unless (measuring m p q s) Undefined (Value (t_value m p q s))
+unfoldable pub uniformity : ℕ → ℕ → ℕ → ℕ → Result ℕ Refusal
+uniformity m p q s = unless (measuring m p q s) Err (Ok (t_value m p q s))
 
 -- The degrees of the plain counter: 2 to 8.
 abbrev pub largest_counted : ℕ
@@ -67,15 +66,15 @@ counting m p q s =
     ∷ situation (not (well_formed m p q)) IllFormedPair
     ∷ []
 
-unfoldable pub counted : ℕ → ℕ → ℕ → ℕ → Uniformity
-counted m p q s = unless (counting m p q s) Undefined (Value (t_value m p q s))
+unfoldable pub counted : ℕ → ℕ → ℕ → ℕ → Result ℕ Refusal
+counted m p q s = unless (counting m p q s) Err (Ok (t_value m p q s))
 
 -- The sum of resolution gaps: 1, 3; else Δ.
 unfoldable pub resolving : ℕ → ℕ → ℕ → List Situation
 resolving m p q = situation (not (lawful_degree m)) WrongDegree ∷ situation (not (well_formed m p q)) IllFormedPair ∷ []
 
-unfoldable pub gap_sum : ℕ → ℕ → ℕ → GapSum
-gap_sum m p q = unless (resolving m p q) NoSum (Sum (sum_of_gaps m p q))
+unfoldable pub gap_sum : ℕ → ℕ → ℕ → Result ℕ Refusal
+gap_sum m p q = unless (resolving m p q) Err (Ok (sum_of_gaps m p q))
 
 -- The list that a page request means, and the request for a page of a list.
 abbrev pub selection_of : PageRequest → Selection
@@ -109,8 +108,8 @@ page_rows r s = page row_key (cut_of (selection_of r) r.position) (capacity r s)
 unfoldable pub further_row : PageRequest → List ℕ → Bool
 further_row r s = more row_key (cut_of (selection_of r) r.position) (capacity r s) (ranked (selection_of r))
 
-unfoldable pub page_answer : PageRequest → List ℕ → PageAnswer
-page_answer r s = unless (paging r s) NoPage (Page (length (page_rows r s)) (further_row r s))
+unfoldable pub page_answer : PageRequest → List ℕ → Result Page Refusal
+page_answer r s = unless (paging r s) Err (Ok (record { rows = length (page_rows r s); further = further_row r s }))
 
 unfoldable pub page_slice : PageRequest → List ℕ → List ℕ
 page_slice r s = unless (paging r s) (λ (n : Refusal). s) (over 0 (join (page_rows r s)) s)
@@ -122,8 +121,8 @@ pointing m floor p q first = judging m floor p q ++ situation (ltb (period m - 1
 abbrev pub word_count : ℕ → ℕ → List ℕ → ℕ
 word_count m first s = min (length s) (period m - first)
 
-unfoldable pub points_answer : ℕ → ℕ → ℕ → ℕ → ℕ → List ℕ → PointsAnswer
-points_answer m floor p q first s = unless (pointing m floor p q first) NotWritten (Written (word_count m first s))
+unfoldable pub points_answer : ℕ → ℕ → ℕ → ℕ → ℕ → List ℕ → Result ℕ Refusal
+points_answer m floor p q first s = unless (pointing m floor p q first) Err (Ok (word_count m first s))
 
 unfoldable pub points_slice : ℕ → ℕ → ℕ → ℕ → ℕ → List ℕ → List ℕ
 points_slice m floor p q first s =

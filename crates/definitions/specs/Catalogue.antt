@@ -1,8 +1,8 @@
 -- The catalogue: its form, opening it, looking a degree up, reading a body row by row. Assumes nothing.
 use Rattle.std.specs.Prelude.{◌&&◌, ◌∷◌, ◌+◌, ◌-◌, ◌*◌, ◌%◌, ◌^◌}
 use Rattle.definitions.specs.Base.{Bool, true, false, cond, not, List, [], ℕ, zero, suc, eqb, leb, ltb}
-use Rattle.definitions.specs.Base.{length, take, drop, get_or, Refusal, WrongDegree, IllFormedCatalogue, DegreeMissing, Opening, Entries, Closed}
-use Rattle.definitions.specs.Base.{Lookup, Body, NoBody, Row, NextRow, Found, End}
+use Rattle.definitions.specs.Base.{length, take, drop, get_or, Refusal, WrongDegree, IllFormedCatalogue, DegreeMissing}
+use Rattle.definitions.specs.Base.{Lookup, Row, Result, Ok, Err, Option, Some, None}
 use Rattle.definitions.specs.Number.{bit, every}
 use Rattle.definitions.specs.Answers.{refusal_number, Situation, situation, unless}
 use Rattle.definitions.specs.Generator.{least_degree, largest_degree, lawful_degree}
@@ -140,8 +140,8 @@ catalogue_form s =
 -- ---- open and look up
 
 -- Opening: 9; else the number of entries.
-unfoldable pub opening : List ℕ → Opening
-opening s = unless (situation (not (catalogue_form s)) IllFormedCatalogue ∷ []) Closed (Entries (byte_at s 0))
+unfoldable pub opening : List ℕ → Result ℕ Refusal
+opening s = unless (situation (not (catalogue_form s)) IllFormedCatalogue ∷ []) Err (Ok (byte_at s 0))
 
 -- The place of the degree's entry among the k from place i on; 0, where no entry lies, where it is missing.
 unfoldable pub entry_from : List ℕ → ℕ → ℕ → ℕ → ℕ
@@ -160,8 +160,8 @@ looking s m =
     ∷ []
 
 -- T, whether the rows have Δ, and the row count.
-unfoldable pub lookup_numbers : List ℕ → ℕ → Lookup
-lookup_numbers s m = let e : Entry = entry_at s (entry_of s m) in unless (looking s m) NoBody (Body e.top e.gaps e.rows)
+unfoldable pub lookup_numbers : List ℕ → ℕ → Result Lookup Refusal
+lookup_numbers s m = let e : Entry = entry_at s (entry_of s m) in unless (looking s m) Err (Ok (record { top = e.top; gaps = e.gaps; rows = e.rows }))
 
 -- The body, a part of the file; empty where the lookup is refused.
 unfoldable pub lookup_part : List ℕ → ℕ → List ℕ
@@ -213,8 +213,8 @@ row_at m top gaps body place =
     }
 
 -- The next row, p with its leading term, or the end.
-unfoldable pub next_row : ℕ → ℕ → Bool → List ℕ → ℕ → NextRow
-next_row m top gaps body place = cond (at_row m top gaps body place) (Found (row_at m top gaps body place)) End
+unfoldable pub next_row : ℕ → ℕ → Bool → List ℕ → ℕ → Option Row
+next_row m top gaps body place = cond (at_row m top gaps body place) (Some (row_at m top gaps body place)) None
 
 -- The place behind the next row; at the end it stays.
 unfoldable pub next_place : ℕ → ℕ → Bool → List ℕ → ℕ → ℕ

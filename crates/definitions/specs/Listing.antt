@@ -1,8 +1,7 @@
 -- The listing program: the line that it reads and the text that it prints, as bytes. Assumes nothing.
 use Rattle.std.specs.Prelude.{◌&&◌, ◌∷◌, ◌++◌, ◌+◌, ◌-◌, ◌*◌, ◌/◌, ◌%◌}
 use Rattle.definitions.specs.Base.{String, len, char_at, code, Bool, true, false, cond, List, [], map, ℕ, zero, suc}
-use Rattle.definitions.specs.Base.{eqb, leb, ltb, length, take, drop, replicate, Refusal, Selection, Start, Line, Asked}
-use Rattle.definitions.specs.Base.{Unreadable}
+use Rattle.definitions.specs.Base.{eqb, leb, ltb, length, take, drop, replicate, Refusal, Selection, Start, Option, Some, None, Asked}
 use Rattle.definitions.specs.Number.{numbers, all, join}
 use Rattle.definitions.specs.Answers.{refusal_number, unless}
 use Rattle.definitions.specs.Ranking.{row_width, ranked}
@@ -75,15 +74,15 @@ unfoldable pub numbers_within : ℕ → List ℕ → List ℕ
 numbers_within k s = elim (leb (length (line_numbers s)) k) [ true ↦ line_numbers s | false ↦ [] ]
 
 -- Degree, T, page size and floor, or the first of these.
-unfoldable pub asked : List ℕ → Line
-asked [] = Unreadable
-asked (m ∷ []) = Asked m default_top default_size default_floor
-asked (m ∷ top ∷ []) = Asked m top default_size default_floor
-asked (m ∷ top ∷ size ∷ []) = Asked m top size default_floor
-asked (m ∷ top ∷ size ∷ floor ∷ []) = Asked m top size floor
-asked (m ∷ top ∷ size ∷ floor ∷ n ∷ l) = Unreadable
+unfoldable pub asked : List ℕ → Option Asked
+asked [] = None
+asked (m ∷ []) = Some (record { degree = m; top = default_top; size = default_size; floor = default_floor })
+asked (m ∷ top ∷ []) = Some (record { degree = m; top = top; size = default_size; floor = default_floor })
+asked (m ∷ top ∷ size ∷ []) = Some (record { degree = m; top = top; size = size; floor = default_floor })
+asked (m ∷ top ∷ size ∷ floor ∷ []) = Some (record { degree = m; top = top; size = size; floor = floor })
+asked (m ∷ top ∷ size ∷ floor ∷ n ∷ l) = None
 
-unfoldable pub read_line : List ℕ → Line
+unfoldable pub read_line : List ℕ → Option Asked
 read_line s = asked (line_numbers s)
 
 -- The refusal that belongs to programs alone: of a line that cannot be read, and of a page size above the largest.
@@ -91,9 +90,9 @@ abbrev pub unreadable : ℕ
 unreadable = 0
 
 -- What a line holds, as the documents' numbers: degree, T, page size and floor, or the number of that refusal.
-abbrev pub line_values : Line → List ℕ
-line_values (Asked m top size floor) = m ∷ top ∷ size ∷ floor ∷ []
-line_values Unreadable = unreadable ∷ []
+abbrev pub line_values : Option Asked → List ℕ
+line_values (Some a) = a.degree ∷ a.top ∷ a.size ∷ a.floor ∷ []
+line_values None = unreadable ∷ []
 
 -- ---- the text
 
@@ -145,13 +144,13 @@ list_text l size =
     header_text l.degree l.top ++ pages_text (suc (length rows)) 1 size rows ++ total_text (length rows)
 
 -- The printed text: an unreadable line or a page size above 1000 first, then the refusals of a page that holds `size` rows, then the list.
-unfoldable pub answer_text : Line → List ℕ
-answer_text Unreadable = refused_text unreadable
-answer_text (Asked m top size floor) =
-    let l : Selection = record { degree = m; top = top; floor = floor; gaps = false } in
-    elim (ltb largest_size size) [
+unfoldable pub answer_text : Option Asked → List ℕ
+answer_text None = refused_text unreadable
+answer_text (Some a) =
+    let l : Selection = record { degree = a.degree; top = a.top; floor = a.floor; gaps = false } in
+    elim (ltb largest_size a.size) [
       | true ↦ refused_text unreadable
-      | false ↦ unless (paging (page_request l Start) (replicate (size * row_width l) 0)) (λ (n : Refusal). refused_text (refusal_number n)) (list_text l size)
+      | false ↦ unless (paging (page_request l Start) (replicate (a.size * row_width l) 0)) (λ (n : Refusal). refused_text (refusal_number n)) (list_text l a.size)
     ]
 
 unfoldable pub listing : List ℕ → List ℕ

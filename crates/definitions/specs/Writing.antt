@@ -2,8 +2,7 @@
 -- and leaves in the lent buffer; and the program that writes a file. Assumes nothing.
 use Rattle.std.specs.Prelude.{◌&&◌, ◌∷◌, ◌++◌, ◌+◌, ◌-◌, ◌*◌, ◌/◌, ◌%◌, ◌^◌}
 use Rattle.definitions.specs.Base.{Bool, true, false, not, List, [], map, ℕ, zero, suc, ltb, length, drop}
-use Rattle.definitions.specs.Base.{get_or, Selection, Refusal, WrongDegree, WrongDimension, WrongFloor, NotAscending, FileTooLong, FileAnswer, File}
-use Rattle.definitions.specs.Base.{NoFile}
+use Rattle.definitions.specs.Base.{get_or, Selection, Refusal, WrongDegree, WrongDimension, WrongFloor, NotAscending, FileTooLong, Result, Ok, Err}
 use Rattle.definitions.specs.Number.{all, join, over}
 use Rattle.definitions.specs.Answers.{refusal_number, Situation, situation, unless}
 use Rattle.definitions.specs.Generator.{lawful_degree, lawful_floor}
@@ -108,8 +107,8 @@ writing floor e s =
     entering floor (entries_of floor e) ++ situation (ltb (length s) (length (ranked_file (entries_of floor e)))) FileTooLong ∷ []
 
 -- The length of the file.
-unfoldable pub file_answer : ℕ → List ℕ → List ℕ → FileAnswer
-file_answer floor e s = unless (writing floor e s) NoFile (File (length (ranked_file (entries_of floor e))))
+unfoldable pub file_answer : ℕ → List ℕ → List ℕ → Result ℕ Refusal
+file_answer floor e s = unless (writing floor e s) Err (Ok (length (ranked_file (entries_of floor e))))
 
 -- The file over the front of the buffer; the bytes behind it stay.
 unfoldable pub file_buffer : ℕ → List ℕ → List ℕ → List ℕ

@@ -30,7 +30,7 @@ pub struct PageRequest {
 
 // Why a call refuses. `specs/Answers.antt` gives each its number. A quotient that is not linear comes with K, the largest degree among the partial
 // quotients.
-#[derive(Clone, Copy)]
+#[derive(Clone, Copy, Debug, PartialEq, Eq)]
 pub enum Refusal {
     WrongDegree,
     WrongDimension,
@@ -48,60 +48,26 @@ pub enum Refusal {
     FileTooLong,
 }
 
-// Judging a pair: its step.
+// What the quotient test finds: K, the largest degree among the partial quotients, and the degree of the common factor.
 #[derive(Clone, Copy)]
-pub enum Judgement {
-    Accepted(u32),
-    Rejected(Refusal),
-}
-
-// The quotient test: K, the largest degree among the partial quotients, and the degree of the common factor.
-#[derive(Clone, Copy)]
-pub enum QuotientTest {
-    Degrees(u32, u32),
-    Untested(Refusal),
-}
-
-// A single t-value.
-#[derive(Clone, Copy)]
-pub enum Uniformity {
-    Value(u32),
-    Undefined(Refusal),
-}
-
-// The sum of resolution gaps Δ.
-#[derive(Clone, Copy)]
-pub enum GapSum {
-    Sum(u32),
-    NoSum(Refusal),
+pub struct QuotientDegrees {
+    pub quotient: u32,
+    pub common: u32,
 }
 
 // A page: how many rows were written, and whether a further row exists.
 #[derive(Clone, Copy)]
-pub enum PageAnswer {
-    Page(usize, bool),
-    NoPage(Refusal),
-}
-
-// Points: how many words were written.
-#[derive(Clone, Copy)]
-pub enum PointsAnswer {
-    Written(usize),
-    NotWritten(Refusal),
-}
-
-// Opening a catalogue: how many degrees it has.
-#[derive(Clone, Copy)]
-pub enum Opening {
-    Entries(u32),
-    Closed(Refusal),
+pub struct Page {
+    pub rows: usize,
+    pub further: bool,
 }
 
 // What a lookup tells of a degree's body: the top dimension, whether its rows have Δ, and the row count.
 #[derive(Clone, Copy)]
-pub enum Lookup {
-    Body(u32, bool, u32),
-    NoBody(Refusal),
+pub struct Lookup {
+    pub top: u32,
+    pub gaps: bool,
+    pub rows: u32,
 }
 
 // A row of a catalogue: the pair, its step, t(3) .. t(8), 0 above the body's top dimension, and Δ, 0 where the body's rows have none.
@@ -119,13 +85,6 @@ pub struct Row {
     pub delta: u32,
 }
 
-// What a reader hands out: the next row, or that it is at the end.
-#[derive(Clone, Copy)]
-pub enum NextRow {
-    Found(Row),
-    End,
-}
-
 // A catalogue's reader: the number of the refusal, 0 where there is none; the lent body, its degree and top dimension, whether its rows have Δ, and the
 // place of the next row.
 #[derive(Clone, Copy)]
@@ -138,16 +97,11 @@ pub struct Reader<'a> {
     pub place: usize,
 }
 
-// Writing a catalogue: the length of the file.
+// What the listing is asked by a line: degree, top dimension, page size and floor.
 #[derive(Clone, Copy)]
-pub enum FileAnswer {
-    File(usize),
-    NoFile(Refusal),
-}
-
-// The line that the listing reads: degree, top dimension, page size and floor.
-#[derive(Clone, Copy)]
-pub enum Line {
-    Asked(u32, u32, u32, u32),
-    Unreadable,
+pub struct Asked {
+    pub degree: u32,
+    pub top: u32,
+    pub size: u32,
+    pub floor: u32,
 }

@@ -4,7 +4,7 @@
 -- documents' table has it: as the definition's tests, and for a pair (3 to 6, 11) in the table's words. Assumes nothing.
 use Rattle.std.proofs.Math.Path.{◌≡◌, refl}
 use Rattle.std.proofs.Common.{ap, inl, inr, arith}
-use Rattle.std.specs.Prelude.{◌↔◌, Bool, false, ℕ, ◌-◌, ◌<◌, eqb, ltb, length, get_or}
+use Rattle.std.specs.Prelude.{◌↔◌, Bool, false, ℕ, ◌-◌, ◌<◌, eqb, ltb, length, get_or, Err}
 use Rattle.std.proofs.Math.Bool.{true, not}
 use mathlib.Core.List.{List, [], ◌∷◌, ◌++◌, map, Memᴰ}
 use Rattle.definitions.specs.Answers.{Situation, situation, refusal_number, unless, judgement_values, uniformity_values, page_values, points_values, opening_values}
@@ -23,15 +23,6 @@ use Rattle.definitions.specs.declared.Selection.{Selection}
 use Rattle.definitions.specs.declared.Position.{Position}
 use Rattle.definitions.specs.declared.Position.TheVariants.{Start, After}
 use Rattle.definitions.specs.declared.PageRequest.{PageRequest}
-use Rattle.definitions.specs.declared.Judgement.TheVariants.{Rejected}
-use Rattle.definitions.specs.declared.QuotientTest.TheVariants.{Untested}
-use Rattle.definitions.specs.declared.Uniformity.TheVariants.{Undefined}
-use Rattle.definitions.specs.declared.GapSum.TheVariants.{NoSum}
-use Rattle.definitions.specs.declared.PageAnswer.TheVariants.{NoPage}
-use Rattle.definitions.specs.declared.PointsAnswer.TheVariants.{NotWritten}
-use Rattle.definitions.specs.declared.Opening.TheVariants.{Closed}
-use Rattle.definitions.specs.declared.Lookup.TheVariants.{NoBody}
-use Rattle.definitions.specs.declared.FileAnswer.TheVariants.{NoFile}
 use Rattle.number_laws.specs.Bounds.{LawfulDegree, LawfulTop, lawful_degree_is, lawful_top_is}
 use Rattle.answer_laws.specs.Unless.{Decides, here, later, NoneApplies, passes, at_end, decides_behind, decides_rest, decides_none}
 use Rattle.answer_laws.specs.Unless.{unless_both, unless_refused, told_refused}
@@ -105,7 +96,7 @@ module _ (m floor p q : ℕ) where
 
   pub judging_exact : Exact (judging m floor p q) (number_of (judgement_values (judgement m floor p q)))
   unfolding judging pair_situations judgement
-  judging_exact = exact judgement_values (judging m floor p q) Rejected _ refl (λ r. refl) refl
+  judging_exact = exact judgement_values (judging m floor p q) Err _ refl (λ r. refl) refl
 
   pub judging_table : LawfulDegree m → lawful_floor floor ≡ true → ByTable m floor p q (number_of (judgement_values (judgement m floor p q)))
   unfolding judging pair_situations
@@ -128,7 +119,7 @@ module _ (m p q : ℕ) where
 
   pub testing_exact : Exact (testing m p q) (number_of (quotient_test_values (quotient_test m p q)))
   unfolding testing quotient_test
-  testing_exact = exact quotient_test_values (testing m p q) Untested _ refl (λ r. refl) refl
+  testing_exact = exact quotient_test_values (testing m p q) Err _ refl (λ r. refl) refl
 
   pub testing_lowest : LowestGiven (testing m p q) (number_of (quotient_test_values (quotient_test m p q)))
   unfolding testing
@@ -147,7 +138,7 @@ module _ (m p q s : ℕ) where
 
   pub measuring_exact : Exact (measuring m p q s) (number_of (uniformity_values (uniformity m p q s)))
   unfolding measuring uniformity
-  measuring_exact = exact uniformity_values (measuring m p q s) Undefined _ refl (λ r. refl) refl
+  measuring_exact = exact uniformity_values (measuring m p q s) Err _ refl (λ r. refl) refl
 
   pub measuring_lowest : LowestGiven (measuring m p q s) (number_of (uniformity_values (uniformity m p q s)))
   unfolding measuring
@@ -166,7 +157,7 @@ module _ (m p q s : ℕ) where
 
   pub counting_exact : Exact (counting m p q s) (number_of (uniformity_values (counted m p q s)))
   unfolding counting counted
-  counting_exact = exact uniformity_values (counting m p q s) Undefined _ refl (λ r. refl) refl
+  counting_exact = exact uniformity_values (counting m p q s) Err _ refl (λ r. refl) refl
 
   pub counting_lowest : LowestGiven (counting m p q s) (number_of (uniformity_values (counted m p q s)))
   unfolding counting
@@ -185,7 +176,7 @@ module _ (m p q : ℕ) where
 
   pub resolving_exact : Exact (resolving m p q) (number_of (gap_sum_values (gap_sum m p q)))
   unfolding resolving gap_sum
-  resolving_exact = exact gap_sum_values (resolving m p q) NoSum _ refl (λ r. refl) refl
+  resolving_exact = exact gap_sum_values (resolving m p q) Err _ refl (λ r. refl) refl
 
   pub resolving_lowest : LowestGiven (resolving m p q) (number_of (gap_sum_values (gap_sum m p q)))
   unfolding resolving
@@ -231,9 +222,9 @@ module _ (r : PageRequest) (s : List ℕ) where
 
   pub paging_exact : Exact (paging r s) (number_of (page_values (page_answer r s)))
   unfolding page_answer
-  paging_exact = exact page_values (paging r s) NoPage _ (paging_numbers (λ l. distinct (0 ∷ l)) refl refl) (λ n. refl) refl
+  paging_exact = exact page_values (paging r s) Err _ (paging_numbers (λ l. distinct (0 ∷ l)) refl refl) (λ n. refl) refl
 
-  pub paging_keeps : (n : Refusal) → page_answer r s ≡ NoPage n → page_slice r s ≡ s
+  pub paging_keeps : (n : Refusal) → page_answer r s ≡ Err n → page_slice r s ≡ s
   paging_keeps n = page_keeps r s
 
 module _ (l : Selection) (s : List ℕ) (p q : ℕ) where
@@ -264,7 +255,7 @@ module _ (m floor p q i : ℕ) where
   module _ (s : List ℕ) where
     pub pointing_exact : Exact (pointing m floor p q i) (number_of (points_values (points_answer m floor p q i s)))
     unfolding pointing judging pair_situations points_answer
-    pointing_exact = exact points_values (pointing m floor p q i) NotWritten _ refl (λ r. refl) refl
+    pointing_exact = exact points_values (pointing m floor p q i) Err _ refl (λ r. refl) refl
 
     pub pointing_table : LawfulDegree m → lawful_floor floor ≡ true → ByTable m floor p q (number_of (points_values (points_answer m floor p q i s)))
     unfolding pointing judging pair_situations
@@ -273,7 +264,7 @@ module _ (m floor p q i : ℕ) where
         (situation (ltb (period m - 1) i) BeyondPeriod ∷ []) lawful pointing_exact refl
         (passes (ap not ((lawful_degree_is m).1 lawful)) (passes (ap not low) at_end)) (λ r d. other_last _ BeyondPeriod (between_other 8 (omega arith) (omega arith)) d)
 
-    pub pointing_keeps : (n : Refusal) → points_answer m floor p q i s ≡ NotWritten n → points_slice m floor p q i s ≡ s
+    pub pointing_keeps : (n : Refusal) → points_answer m floor p q i s ≡ Err n → points_slice m floor p q i s ≡ s
     pointing_keeps n = points_keep m floor p q i s
 
 -- ---- the catalogue
@@ -284,7 +275,7 @@ form_situation s = situation (not (catalogue_form s)) IllFormedCatalogue ∷ []
 
 pub opening_exact : (s : List ℕ) → Exact (form_situation s) (number_of (opening_values (opening s)))
 unfolding opening
-opening_exact s = exact opening_values (form_situation s) Closed _ refl (λ r. refl) refl
+opening_exact s = exact opening_values (form_situation s) Err _ refl (λ r. refl) refl
 
 module _ (s : List ℕ) (m : ℕ) where
   pub looking_uses : numbers_of (looking s m) ≡ 1 ∷ 9 ∷ 10 ∷ []
@@ -293,7 +284,7 @@ module _ (s : List ℕ) (m : ℕ) where
 
   pub looking_exact : Exact (looking s m) (number_of (lookup_values (lookup_numbers s m)))
   unfolding looking lookup_numbers
-  looking_exact = exact lookup_values (looking s m) NoBody _ refl (λ r. refl) refl
+  looking_exact = exact lookup_values (looking s m) Err _ refl (λ r. refl) refl
 
   pub looking_lowest : LowestGiven (looking s m) (number_of (lookup_values (lookup_numbers s m)))
   unfolding looking
@@ -304,7 +295,7 @@ module _ (s : List ℕ) (m : ℕ) where
   looking_situations = refl
 
   -- Refused, the part is empty, and a reader has no rows and T = 0.
-  pub looking_empty : (n : Refusal) → lookup_numbers s m ≡ NoBody n → (lookup_part s m ≡ []) × (reader_top s m ≡ 0) × (reader_gaps s m ≡ false)
+  pub looking_empty : (n : Refusal) → lookup_numbers s m ≡ Err n → (lookup_part s m ≡ []) × (reader_top s m ≡ 0) × (reader_gaps s m ≡ false)
   unfolding lookup_numbers lookup_part reader_top reader_gaps
   looking_empty n e =
       let t = told_refused (looking s m) e (λ d. let z : ◌≡◌ {A = ℕ} 0 1 = cc in omega arith) in (
@@ -322,7 +313,7 @@ module _ (floor : ℕ) (e s : List ℕ) where
 
   pub writing_exact : Exact (writing floor e s) (number_of (file_values (file_answer floor e s)))
   unfolding writing entering file_answer
-  writing_exact = exact file_values (writing floor e s) NoFile _ refl (λ r. refl) refl
+  writing_exact = exact file_values (writing floor e s) Err _ refl (λ r. refl) refl
 
   pub writing_lowest : LowestGiven (writing floor e s) (number_of (file_values (file_answer floor e s)))
   unfolding writing entering
@@ -334,5 +325,5 @@ module _ (floor : ℕ) (e s : List ℕ) where
   unfolding writing entering applies
   writing_situations = refl
 
-  pub writing_keeps : (n : Refusal) → file_answer floor e s ≡ NoFile n → file_buffer floor e s ≡ s
+  pub writing_keeps : (n : Refusal) → file_answer floor e s ≡ Err n → file_buffer floor e s ≡ s
   writing_keeps n = file_keeps floor e s

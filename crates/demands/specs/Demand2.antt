@@ -3,7 +3,7 @@
 -- period, and with the origin they are the point set in every dimension. From the laws of orders, of nets and of blocks. Assumes nothing.
 use Rattle.std.proofs.Math.Path.{◌≡◌}
 use Rattle.std.proofs.Common.{ap, ◌∙◌, subst, pow_pos}
-use Rattle.std.specs.Prelude.{◌↔◌, Bool, true, List, ℕ, ◌+◌, ◌-◌, ◌^◌, ◌≤◌, length}
+use Rattle.std.specs.Prelude.{◌↔◌, Bool, true, List, ℕ, ◌+◌, ◌-◌, ◌^◌, ◌≤◌, length, Ok, Err}
 use Rattle.std.proofs.Math.Bool.{not}
 use native.Mathlib.Omega.{arith}
 use borrow.Author.Tests.{not-false, le-ltb, leb-true, le-leb}
@@ -14,8 +14,6 @@ use Rattle.definitions.specs.Net.{t_value}
 use Rattle.definitions.specs.Points.{words}
 use Rattle.definitions.specs.Calls.{pair_situations, judging, judgement, measuring, uniformity, pointing, word_count, points_slice}
 use Rattle.definitions.specs.declared.Refusal.{Refusal}
-use Rattle.definitions.specs.declared.Uniformity.TheVariants.{Value}
-use Rattle.definitions.specs.declared.Judgement.TheVariants.{Accepted, Rejected}
 use Rattle.number_laws.specs.Bounds.{LawfulDegree, lawful_degree_is}
 use Rattle.answer_laws.specs.Unless.{NoneApplies, passes, at_end, none_append, unless_given, told_given}
 use Rattle.fraction_laws.specs.WellFormed.{WellFormed, well_formed_is}
@@ -74,11 +72,11 @@ module _ (m floor p q : ℕ) where
     reaches = not-false _ g;
   }
 
-  tests_judged : Tests m floor p q → judgement m floor p q ≡ Accepted (step m p q)
+  tests_judged : Tests m floor p q → judgement m floor p q ≡ Ok (step m p q)
   unfolding judgement
-  tests_judged t = unless_given Rejected _ (tests_pass t)
+  tests_judged t = unless_given Err _ (tests_pass t)
 
-  judged_tests : (σ : ℕ) → judgement m floor p q ≡ Accepted σ → Tests m floor p q × (step m p q ≡ σ)
+  judged_tests : (σ : ℕ) → judgement m floor p q ≡ Ok σ → Tests m floor p q × (step m p q ≡ σ)
   unfolding judgement
   judged_tests σ e =
       let g = told_given (judging m floor p q) e (λ r d. let z : ◌≡◌ {A = ℕ} 0 1 = cc in omega arith) in
@@ -126,17 +124,17 @@ module _ (m floor p q : ℕ) where
       }
 
 -- ACCEPTED EXACTLY WHEN, for any four numbers and any answer σ.
-pub accepted_exactly : (m floor p q σ : ℕ) → (judgement m floor p q ≡ Accepted σ) ↔ Conditions m floor p q σ
+pub accepted_exactly : (m floor p q σ : ℕ) → (judgement m floor p q ≡ Ok σ) ↔ Conditions m floor p q σ
 accepted_exactly m floor p q σ = (
-  λ (e : judgement m floor p q ≡ Accepted σ).
+  λ (e : judgement m floor p q ≡ Ok σ).
       let t = judged_tests m floor p q σ e in
       subst (Conditions m floor p q) t.1 (tests_conditions m floor p q t.0),
-  λ (c : Conditions m floor p q σ). tests_judged m floor p q (conditions_tests m floor p q σ c) ∙ ap Accepted (conditions_step m floor p q σ c),
+  λ (c : Conditions m floor p q σ). tests_judged m floor p q (conditions_tests m floor p q σ c) ∙ ap Ok (conditions_step m floor p q σ c),
 )
 
 -- The list's test is the same: of the well-formed pairs of a lawful degree, those that judging accepts at the list's floor.
 pub accepted_judged : (m floor p q : ℕ) → lawful_degree m ≡ true → lawful_floor floor ≡ true → well_formed m p q ≡ true
-    → (accepted_at m floor p q ≡ true) ↔ (judgement m floor p q ≡ Accepted (step m p q))
+    → (accepted_at m floor p q ≡ true) ↔ (judgement m floor p q ≡ Ok (step m p q))
 accepted_judged m floor p q l low f = (
   λ (a : accepted_at m floor p q ≡ true).
       let h = (accepted_at_is m floor p q).0 a in
@@ -151,7 +149,7 @@ accepted_judged m floor p q l low f = (
         coprime = j.coprime;
         reaches = (reaches_floor_is m floor p q).1 h.reaches;
       }),
-  λ (e : judgement m floor p q ≡ Accepted (step m p q)). tests_accepted m floor p q (judged_tests m floor p q (step m p q) e).0,
+  λ (e : judgement m floor p q ≡ Ok (step m p q)). tests_accepted m floor p q (judged_tests m floor p q (step m p q) e).0,
 )
 
 -- ---- t-values
@@ -165,7 +163,7 @@ unfolding measuring
 measured_formed m p q s (passes a (passes b (passes c at_end))) = not-false _ c
 
 -- A t-value that is given is that smallest one.
-pub uniformity_smallest : (m p q s t : ℕ) → uniformity m p q s ≡ Value t → SmallestNet m p q s t
+pub uniformity_smallest : (m p q s t : ℕ) → uniformity m p q s ≡ Ok t → SmallestNet m p q s t
 unfolding uniformity
 uniformity_smallest m p q s t e =
     let g = told_given (measuring m p q s) e (λ r d. let z : ◌≡◌ {A = ℕ} 0 1 = cc in omega arith) in

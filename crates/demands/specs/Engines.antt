@@ -2,14 +2,13 @@
 -- well-formed pair and dimension 1 to 8 both give the t-value. What the counter gives is the smallest t for which, however m - t digits are shared,
 -- each box has exactly 2^t points. So it is of the calls and of the C functions, by their contracts, and `recount` prints it. Assumes nothing.
 use Rattle.std.proofs.Math.Path.{◌≡◌}
-use Rattle.std.specs.Prelude.{refl, ℕ, ◌≤◌, length, take, drop}
+use Rattle.std.specs.Prelude.{refl, ℕ, ◌≤◌, length, take, drop, Result, Ok}
 use Rattle.std.proofs.Common.{sym, ap, ◌∙◌, arith, take_at}
 use Rattle.definitions.specs.Answers.{uniformity_values}
 use Rattle.definitions.specs.Net.{t_value}
 use Rattle.definitions.specs.Calls.{uniformity, counting, counted}
 use Rattle.definitions.specs.Recount.{recount}
-use Rattle.definitions.specs.declared.Uniformity.{Uniformity}
-use Rattle.definitions.specs.declared.Uniformity.TheVariants.{Value}
+use Rattle.definitions.specs.declared.Refusal.{Refusal}
 use Rattle.number_laws.specs.Bounds.{CountedDegree, LawfulDimension, counted_degree_is, lawful_degree_is, counted_lawful, lawful_dimension_is}
 use Rattle.slice_laws.specs.Over.{over_front}
 use Rattle.slice_laws.proofs.Placing.{put_front}
@@ -34,14 +33,14 @@ module _ (m p q s : ℕ) where
 
   -- Each gives the t-value of a well-formed pair in a dimension of 1 to 8.
   module _ (degree : CountedDegree m) (dimension : LawfulDimension s) (pair : WellFormed m p q) where
-    pub quick_value : uniformity m p q s ≡ Value (t_value m p q s)
+    pub quick_value : uniformity m p q s ≡ Ok (t_value m p q s)
     quick_value =
         measured m p q s ((lawful_degree_is m).1 (counted_lawful degree)) ((lawful_dimension_is s).1 dimension) ((well_formed_is m p q).1 pair)
 
-    pub counted_value : counted m p q s ≡ Value (t_value m p q s)
+    pub counted_value : counted m p q s ≡ Ok (t_value m p q s)
     counted_value = engines_agree degree ∙ quick_value
 
-  pub counted_smallest : (t : ℕ) → counted m p q s ≡ Value t → SmallestNet m p q s t
+  pub counted_smallest : (t : ℕ) → counted m p q s ≡ Ok t → SmallestNet m p q s t
   unfolding counted
   counted_smallest t e =
       let given = (told_given (counting m p q s) e (λ r d. let z : ◌≡◌ {A = ℕ} 0 1 = cc in omega arith)).0 in
@@ -57,7 +56,7 @@ module _ (κs κs' : _) (m p q s : ℕ) (r r' : _) (e e' : _)
 
   -- and of a well-formed pair, in a dimension of 1 to 8, both give the t-value.
   module _ (dimension : LawfulDimension s) (pair : WellFormed m p q) where
-    pub both_t_value : (r ≡ Value (t_value m p q s)) × (r' ≡ Value (t_value m p q s))
+    pub both_t_value : (r ≡ Ok (t_value m p q s)) × (r' ≡ Ok (t_value m p q s))
     both_t_value = (quick ∙ quick_value m p q s degree dimension pair, count ∙ counted_value m p q s degree dimension pair)
 
 -- ---- of the C functions
@@ -65,7 +64,7 @@ module _ (κs κs' : _) (m p q s : ℕ) (r r' : _) (e e' : _)
 module _ (κs κs' : _) (m p q s : ℕ) (r r' : _) (e e' : _)
     (quick : c-t-value.Post κs (m, (p, (q, (s, tt)))) r e) (count : c-count-t-value.Post κs' (m, (p, (q, (s, tt)))) r' e') (degree : CountedDegree m) where
   pub c_count_is_quick : r' ≡ r
-  c_count_is_quick = count ∙ ap (λ (u : Uniformity). t_value_result (uniformity_values u)) (engines_agree m p q s degree) ∙ sym quick
+  c_count_is_quick = count ∙ ap (λ (u : Result ℕ Refusal). t_value_result (uniformity_values u)) (engines_agree m p q s degree) ∙ sym quick
 
 -- ---- what is printed
 

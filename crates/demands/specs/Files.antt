@@ -1,6 +1,6 @@
 -- Of catalogues that are written: when each refusal applies, in the words of document 02, and what is read back. The situations by the entries of
 -- the slice; the round trip from `writing_laws/RankedFile`, as entries that are not refused are lawful. Assumes nothing.
-use Rattle.std.specs.Prelude.{◌≡◌, ◌↔◌, ◌⊎◌, Bool, true, ltb, take, drop, get_or, replicate}
+use Rattle.std.specs.Prelude.{◌≡◌, ◌↔◌, ◌⊎◌, Bool, true, ltb, take, drop, get_or, replicate, Ok, Err, Some, None}
 use Rattle.std.proofs.Common.{sym, ◌∙◌, subst, inl, take_at, drop_at}
 use Rattle.std.proofs.Math.Path.{ap}
 use Rattle.std.proofs.Math.Logic.{inr}
@@ -16,10 +16,6 @@ use Rattle.definitions.specs.Ranking.{lawful_top, ranked}
 use Rattle.definitions.specs.Catalogue.{catalogue_form, top_of, gaps_of, opening, lookup_numbers}
 use Rattle.definitions.specs.Writing.{entries_of, ranked_list, ranked_file, lawful_degrees, lawful_tops, ascending, entering, writing, file_answer, file_buffer}
 use Rattle.definitions.specs.declared.Selection.{Selection}
-use Rattle.definitions.specs.declared.FileAnswer.TheVariants.{File}
-use Rattle.definitions.specs.declared.NextRow.TheVariants.{Found, End}
-use Rattle.definitions.specs.declared.Opening.TheVariants.{Entries}
-use Rattle.definitions.specs.declared.Lookup.TheVariants.{Body, NoBody}
 use Rattle.definitions.specs.declared.Refusal.TheVariants.{DegreeMissing}
 use borrow.Author.Tests.{ltb-true, ltb-false, lt-ltb, le-ltb, leb-false, lt-leb, not-true}
 use Rattle.number_laws.specs.Truth.{by_test}
@@ -133,12 +129,12 @@ module _ (floor : ℕ) (e s : List ℕ) where
 -- Δ or without as each entry asks, and no other degree.
 pub record ReadsBack (ls : List Selection) (file : List ℕ) : Type 0 where
   pub form : catalogue_form file ≡ true
-  pub opens : opening file ≡ Entries (length ls)
+  pub opens : opening file ≡ Ok (length ls)
   pub holds : held_in file ≡ map ranked_list ls
-  pub numbers : (l : Selection) → Memᴰ l ls → lookup_numbers file l.degree ≡ Body l.top l.gaps (length (ranked l))
+  pub numbers : (l : Selection) → Memᴰ l ls → lookup_numbers file l.degree ≡ Ok (record { top = l.top; gaps = l.gaps; rows = length (ranked l) })
   pub rows : (l : Selection) → Memᴰ l ls → (n : ℕ)
-      → read_by file l.degree (length (ranked l) + n) ≡ map (λ (r : List ℕ). Found (row_of l.top l.gaps r)) (ranked l) ++ replicate n End
-  pub no_other : (m : ℕ) → lawful_degree m ≡ true → ((l : Selection) → Memᴰ l ls → l.degree ≡ m → ⊥) → lookup_numbers file m ≡ NoBody DegreeMissing
+      → read_by file l.degree (length (ranked l) + n) ≡ map (λ (r : List ℕ). Some (row_of l.top l.gaps r)) (ranked l) ++ replicate n None
+  pub no_other : (m : ℕ) → lawful_degree m ≡ true → ((l : Selection) → Memᴰ l ls → l.degree ≡ m → ⊥) → lookup_numbers file m ≡ Err DegreeMissing
 
 reads_back : (ls : List Selection) → LawfulEntries 0 ls → ReadsBack ls (ranked_file ls)
 reads_back ls h = record {
@@ -156,7 +152,7 @@ pub record WrittenFile (floor : ℕ) (e s : List ℕ) (n : ℕ) (t : List ℕ) :
   pub behind : drop n t ≡ drop n s
   pub back : ReadsBack (entries_of floor e) (take n t)
 
-pub written_file : (floor : ℕ) (e s : List ℕ) (n : ℕ) → file_answer floor e s ≡ File n → WrittenFile floor e s n (file_buffer floor e s)
+pub written_file : (floor : ℕ) (e s : List ℕ) (n : ℕ) → file_answer floor e s ≡ Ok n → WrittenFile floor e s n (file_buffer floor e s)
 unfolding writing
 written_file floor e s n given =
     let file = ranked_file (entries_of floor e) in

@@ -1,7 +1,7 @@
 -- Floors. At the floors 0 and 1 each call answers as the documents have it without a floor: its tests in their order, where the lowest number that
 -- applies is given, and the list of every accepted pair; so the two floors give the same. Whoever walks a list at any floor receives what a walk at
 -- floor 0 gives, without the rows that have a smaller step. From the fact that every step is 1 at least. Assumes nothing.
-use Rattle.std.specs.Prelude.{◌≡◌, Bool, true, false, not, ℕ, ◌-◌, ◌/◌, ◌≤◌, ltb, length}
+use Rattle.std.specs.Prelude.{◌≡◌, Bool, true, false, not, ℕ, ◌-◌, ◌/◌, ◌≤◌, ltb, length, Ok, Err}
 use Rattle.std.proofs.Math.Path.{refl, ap, ap₂}
 use Rattle.std.proofs.Common.{sym, ◌∙◌, arith, le-leb}
 use mathlib.Core.List.{List, [], ◌∷◌, ◌++◌, map}
@@ -21,10 +21,6 @@ use Rattle.definitions.specs.declared.Refusal.TheVariants.{WrongDegree, WrongDim
 use Rattle.definitions.specs.declared.Selection.{Selection}
 use Rattle.definitions.specs.declared.Position.{Position}
 use Rattle.definitions.specs.declared.Position.TheVariants.{Start, After}
-use Rattle.definitions.specs.declared.Judgement.TheVariants.{Accepted, Rejected}
-use Rattle.definitions.specs.declared.PageAnswer.TheVariants.{Page, NoPage}
-use Rattle.definitions.specs.declared.PointsAnswer.TheVariants.{Written, NotWritten}
-use Rattle.definitions.specs.declared.FileAnswer.TheVariants.{File, NoFile}
 use Rattle.order_laws.specs.Floor.{small_floor_reached}
 use Rattle.ranking_laws.specs.Floors.{at_floor, long_step, floor_sublist, small_floor_list}
 use Rattle.demands.specs.Demand1.{LowestGiven, number_of, exact, lowest}
@@ -103,15 +99,15 @@ base_paging_lem refuse value l floor h (After p q) s = rw (lawful_small floor h,
 
 module _ (m floor p q : ℕ) (h : floor ≤ 1) where
   -- Judging,
-  pub base_judgement : judgement m floor p q ≡ unless (base_judging m p q) Rejected (Accepted (step m p q))
+  pub base_judgement : judgement m floor p q ≡ unless (base_judging m p q) Err (Ok (step m p q))
   unfolding judgement
-  base_judgement = base_judging_lem Rejected (Accepted (step m p q)) m floor p q h
+  base_judgement = base_judging_lem Err (Ok (step m p q)) m floor p q h
 
   -- points,
   module _ (first : ℕ) (s : List ℕ) where
-    pub base_points : points_answer m floor p q first s ≡ unless (base_pointing m p q first) NotWritten (Written (word_count m first s))
+    pub base_points : points_answer m floor p q first s ≡ unless (base_pointing m p q first) Err (Ok (word_count m first s))
     unfolding points_answer
-    base_points = base_pointing_lem NotWritten (Written (word_count m first s)) m floor p q h first
+    base_points = base_pointing_lem Err (Ok (word_count m first s)) m floor p q h first
 
     pub base_words : points_slice m floor p q first s
         ≡ unless (base_pointing m p q first) (λ (n : Refusal). s) (over 0 (words p q first (word_count m first s)) s)
@@ -141,10 +137,9 @@ module _ (l : Selection) (floor : ℕ) (h : floor ≤ 1) (at : Position) (s : Li
   base_further = rw (base_cut, base_ranked_lem l floor h)
 
   pub base_page : page_answer (page_request (at_floor floor l) at) s
-      ≡ unless (base_paging l at s) NoPage (Page (length (page row_key (cut_of l at) (length s / row_width l) (base_ranked l)))
-      (more row_key (cut_of l at) (length s / row_width l) (base_ranked l)))
+      ≡ unless (base_paging l at s) Err (Ok (record { rows = length (page row_key (cut_of l at) (length s / row_width l) (base_ranked l)); further = more row_key (cut_of l at) (length s / row_width l) (base_ranked l) }))
   unfolding page_answer
-  base_page = rw (base_rows, base_further) (base_paging_lem NoPage _ l floor h at s)
+  base_page = rw (base_rows, base_further) (base_paging_lem Err _ l floor h at s)
 
   pub base_slice : page_slice (page_request (at_floor floor l) at) s
       ≡ unless (base_paging l at s) (λ (n : Refusal). s) (over 0 (join (page row_key (cut_of l at) (length s / row_width l) (base_ranked l))) s)
@@ -197,9 +192,9 @@ module _ (floor : ℕ) where
     unfolding unless writing entering
     base_writing_lem refuse value e s = rw (lawful_small floor h, degrees_at e, tops_at e, ascending_at e, base_ranked_file e)
 
-    pub base_answer : (e s : List ℕ) → file_answer floor e s ≡ unless (base_writing e s) NoFile (File (length (base_file e)))
+    pub base_answer : (e s : List ℕ) → file_answer floor e s ≡ unless (base_writing e s) Err (Ok (length (base_file e)))
     unfolding file_answer
-    base_answer e s = rw (base_ranked_file e) (base_writing_lem NoFile _ e s)
+    base_answer e s = rw (base_ranked_file e) (base_writing_lem Err _ e s)
 
     pub base_buffer : (e s : List ℕ) → file_buffer floor e s ≡ unless (base_writing e s) (λ (n : Refusal). s) (over 0 (base_file e) s)
     unfolding file_buffer
@@ -210,19 +205,19 @@ module _ (floor : ℕ) where
 module _ (m floor p q : ℕ) (h : floor ≤ 1) where
   pub base_judging_lowest : LowestGiven (base_judging m p q) (number_of (judgement_values (judgement m floor p q)))
   base_judging_lowest =
-      rw (base_judgement m floor p q h) (lowest (exact judgement_values (base_judging m p q) Rejected (Accepted (step m p q)) refl (λ r. refl) refl) refl)
+      rw (base_judgement m floor p q h) (lowest (exact judgement_values (base_judging m p q) Err (Ok (step m p q)) refl (λ r. refl) refl) refl)
 
   pub base_pointing_lowest : (first : ℕ) (s : List ℕ) → LowestGiven (base_pointing m p q first) (number_of (points_values (points_answer m floor p q first s)))
   base_pointing_lowest first s =
       rw (base_points m floor p q h first s)
-      (lowest (exact points_values (base_pointing m p q first) NotWritten (Written (word_count m first s)) refl (λ r. refl) refl) refl)
+      (lowest (exact points_values (base_pointing m p q first) Err (Ok (word_count m first s)) refl (λ r. refl) refl) refl)
 
 pub base_paging_lowest : (l : Selection) (floor : ℕ) → floor ≤ 1 → (at : Position) (s : List ℕ)
     → LowestGiven (base_paging l at s) (number_of (page_values (page_answer (page_request (at_floor floor l) at) s)))
 base_paging_lowest l floor h Start s =
-    rw (base_page l floor h Start s) (lowest (exact page_values (base_paging l Start s) NoPage _ refl (λ r. refl) refl) refl)
+    rw (base_page l floor h Start s) (lowest (exact page_values (base_paging l Start s) Err _ refl (λ r. refl) refl) refl)
 base_paging_lowest l floor h (After p q) s =
-    rw (base_page l floor h (After p q) s) (lowest (exact page_values (base_paging l (After p q) s) NoPage _ refl (λ r. refl) refl) refl)
+    rw (base_page l floor h (After p q) s) (lowest (exact page_values (base_paging l (After p q) s) Err _ refl (λ r. refl) refl) refl)
 
 -- ---- FLOORS 0 AND 1 GIVE THE SAME
 

@@ -2,7 +2,7 @@
 -- with the value, a refusal leaves the slice as it was, accepted is what demand 2 says, the t-value is the smallest, whoever walks the pages reads
 -- the ranked list, points in pieces are the full period, and a file that was written is read back. Each result holds the values of the definition's
 -- answer. Assumes nothing.
-use Rattle.std.specs.Prelude.{◌≡◌, refl, ◌↔◌, true, List, ℕ, ◌≤◌, ◌<◌}
+use Rattle.std.specs.Prelude.{◌≡◌, refl, ◌↔◌, true, List, ℕ, ◌≤◌, ◌<◌, Result, Ok, Err}
 use Rattle.std.proofs.Math.Path.{ap}
 use Rattle.std.proofs.Common.{ap₂, ◌∙◌, zero-mul, arith}
 use Rattle.std.proofs.Math.ListN.{length}
@@ -19,13 +19,9 @@ use Rattle.definitions.specs.Calls.{pointing, points_answer, points_slice}
 use Rattle.definitions.specs.declared.Position.{Position}
 use Rattle.definitions.specs.declared.Position.TheVariants.{Start, After}
 use Rattle.definitions.specs.declared.PageRequest.{PageRequest}
-use Rattle.definitions.specs.declared.Judgement.TheVariants.{Accepted, Rejected}
-use Rattle.definitions.specs.declared.QuotientTest.TheVariants.{Degrees, Untested}
-use Rattle.definitions.specs.declared.Uniformity.TheVariants.{Value, Undefined}
-use Rattle.definitions.specs.declared.FileAnswer.TheVariants.{File, NoFile}
 use Rattle.number_laws.specs.Bounds.{LawfulDegree, LawfulTop}
 use Rattle.definitions.specs.declared.Lookup.{Lookup}
-use Rattle.definitions.specs.declared.Lookup.TheVariants.{Body, NoBody}
+use Rattle.definitions.specs.declared.Refusal.{Refusal}
 use Rattle.net_laws.specs.Smallest.{SmallestNet}
 use Rattle.answer_laws.specs.Unless.{unless_given}
 use Rattle.answer_laws.specs.Together.{answered_both}
@@ -70,9 +66,9 @@ use Rattle.demands.specs.Period.{FaithfulPoints, ReadsPeriod, faithful_period}
 -- ---- a result that says 0 holds the value
 
 module _ (m floor p q : ℕ) where
-  judged_zero : number_of (judgement_values (judgement m floor p q)) ≡ 0 → judgement m floor p q ≡ Accepted (step m p q)
+  judged_zero : number_of (judgement_values (judgement m floor p q)) ≡ 0 → judgement m floor p q ≡ Ok (step m p q)
   unfolding judgement
-  judged_zero z = unless_given Rejected _ ((judging_exact m floor p q).none.0 z)
+  judged_zero z = unless_given Err _ ((judging_exact m floor p q).none.0 z)
 
   judgement_accepts : (r : FenyurkaJudgement) → r ≡ judgement_result (judgement_values (judgement m floor p q)) → (σ : ℕ)
       → ((r.refusal ≡ 0) × (r.step ≡ σ)) ↔ Conditions m floor p q σ
@@ -82,15 +78,15 @@ module _ (m floor p q : ℕ) where
       to g =
           let accepted = judged_zero (rw h at g.0) in
           let same : step m p q ≡ σ = rw (h, accepted) at g.1 in
-          (accepted_exactly m floor p q σ).0 (accepted ∙ ap Accepted same)
+          (accepted_exactly m floor p q σ).0 (accepted ∙ ap Ok same)
 
       from : Conditions m floor p q σ → (r.refusal ≡ 0) × (r.step ≡ σ)
       from c = rw (h, (accepted_exactly m floor p q σ).1 c) (refl, refl)
 
 module _ (m p q : ℕ) where
-  tested_zero : number_of (quotient_test_values (quotient_test m p q)) ≡ 0 → quotient_test m p q ≡ Degrees (quotient_degree p q) (common_degree p q)
+  tested_zero : number_of (quotient_test_values (quotient_test m p q)) ≡ 0 → quotient_test m p q ≡ Ok (record { quotient = quotient_degree p q; common = common_degree p q })
   unfolding quotient_test
-  tested_zero z = unless_given Untested _ ((testing_exact m p q).none.0 z)
+  tested_zero z = unless_given Err _ ((testing_exact m p q).none.0 z)
 
   result_tested : (r : FenyurkaQuotients) → r ≡ quotients_result (quotient_test_values (quotient_test m p q)) → (k c : ℕ)
       → ((r.refusal ≡ 0) × (r.quotient_degree ≡ k) × (r.common_degree ≡ c)) ↔ Tested m p q k c
@@ -101,15 +97,15 @@ module _ (m p q : ℕ) where
           let given = tested_zero (rw h at g.0) in
           let k-is : quotient_degree p q ≡ k = rw (h, given) at g.1 in
           let c-is : common_degree p q ≡ c = rw (h, given) at g.2 in
-          (tested_exactly m p q k c).0 (given ∙ ap₂ Degrees k-is c-is)
+          (tested_exactly m p q k c).0 (given ∙ ap₂ (λ (a b : ℕ). Ok (record { quotient = a; common = b })) k-is c-is)
 
       from : Tested m p q k c → (r.refusal ≡ 0) × (r.quotient_degree ≡ k) × (r.common_degree ≡ c)
       from t = rw (h, (tested_exactly m p q k c).1 t) (refl, refl, refl)
 
   module _ (s : ℕ) where
-    measured_zero : number_of (uniformity_values (uniformity m p q s)) ≡ 0 → uniformity m p q s ≡ Value (t_value m p q s)
+    measured_zero : number_of (uniformity_values (uniformity m p q s)) ≡ 0 → uniformity m p q s ≡ Ok (t_value m p q s)
     unfolding uniformity
-    measured_zero z = unless_given Undefined _ ((measuring_exact m p q s).none.0 z)
+    measured_zero z = unless_given Err _ ((measuring_exact m p q s).none.0 z)
 
     result_smallest : (r : FenyurkaTValue) → r ≡ t_value_result (uniformity_values (uniformity m p q s)) → r.refusal ≡ 0 → SmallestNet m p q s r.t
     result_smallest r h z =
@@ -117,9 +113,9 @@ module _ (m p q : ℕ) where
         let same : r.t ≡ t_value m p q s = rw (h, given) in
         rw same (uniformity_smallest m p q s (t_value m p q s) given)
 
-    counted_zero : number_of (uniformity_values (counted m p q s)) ≡ 0 → counted m p q s ≡ Value (t_value m p q s)
+    counted_zero : number_of (uniformity_values (counted m p q s)) ≡ 0 → counted m p q s ≡ Ok (t_value m p q s)
     unfolding counted
-    counted_zero z = unless_given Undefined _ ((counting_exact m p q s).none.0 z)
+    counted_zero z = unless_given Err _ ((counting_exact m p q s).none.0 z)
 
     result_counted : (r : FenyurkaTValue) → r ≡ t_value_result (uniformity_values (counted m p q s)) → r.refusal ≡ 0 → SmallestNet m p q s r.t
     result_counted r h z =
@@ -142,12 +138,12 @@ module _ (floor : ℕ) (entries s : List ℕ) (r : FenyurkaFile) (h : r ≡ file
   file_result_keeps n =
       answered_both (file_answered floor entries s) (λ a t. 0 < number_of (file_values a) → t ≡ s) (λ k i. refl) (λ i. absurd (omega arith)) (rw h at n)
 
-  file_zero : r.refusal ≡ 0 → file_answer floor entries s ≡ File r.length
+  file_zero : r.refusal ≡ 0 → file_answer floor entries s ≡ Ok r.length
   unfolding file_answer
   file_zero z =
-      let given = unless_given NoFile (File (length (ranked_file (entries_of floor entries)))) ((writing_exact floor entries s).none.0 (rw h at z)) in
+      let given = unless_given Err (Ok (length (ranked_file (entries_of floor entries)))) ((writing_exact floor entries s).none.0 (rw h at z)) in
       let same : length (ranked_file (entries_of floor entries)) ≡ r.length = rw (h, given) in
-      given ∙ ap File same
+      given ∙ ap Ok same
 
 -- ---- demands 1 and 2, call by call
 
@@ -263,9 +259,9 @@ c_lookup_empty κs file m r e h n =
     let given = located_values file.now m in
     rw (h, (located_part file.now m).whole, given.rows, no_rows (lookup_numbers file.now m) (rw (h, given.refusal) at n), zero-mul)
   where
-    no_rows : (k : Lookup) → 0 < value (lookup_values k) 0 → value (lookup_values k) 3 ≡ 0
-    no_rows (Body top gaps rows) some = absurd (omega arith)
-    no_rows (NoBody refusal) some = refl
+    no_rows : (k : Result Lookup Refusal) → 0 < value (lookup_values k) 0 → value (lookup_values k) 3 ≡ 0
+    no_rows (Ok numbers) some = absurd (omega arith)
+    no_rows (Err refusal) some = refl
 
 module _ (κs : _) (floor : ℕ) (entries lent : _) (r : _) (e : _) (h : c-write.Post κs (floor, (entries, (lent, tt))) r e) where
   pub c_write_exact : Exact (writing floor entries.now lent.now) r.refusal

@@ -1,7 +1,7 @@
 -- The demands of the calls themselves: whatever result and slices a call's contract allows, demands 1 to 3 hold of them. `Post` is what the
 -- toolchain makes of the source's `ensures`: a claim of the lifetimes, the arguments as a chain of pairs, the result r and the arguments at exit e.
 -- Each contract says that the result, and the slice at exit, are the definition's, so what is proved of that holds. Assumes nothing.
-use Rattle.std.specs.Prelude.{◌≡◌, ◌↔◌, true, ℕ, ◌-◌, ◌≤◌, max, length}
+use Rattle.std.specs.Prelude.{◌≡◌, ◌↔◌, true, ℕ, ◌-◌, ◌≤◌, max, length, Ok, Err}
 use Rattle.std.proofs.Common.{sym, ◌∙◌}
 use mathlib.Core.List.{List, [], Memᴰ}
 use base.Logic.{ent}
@@ -18,13 +18,6 @@ use Rattle.definitions.specs.Catalogue.{looking, lookup_numbers}
 use Rattle.definitions.specs.Writing.{writing}
 use Rattle.definitions.specs.declared.Refusal.{Refusal}
 use Rattle.definitions.specs.declared.Selection.{Selection}
-use Rattle.definitions.specs.declared.Judgement.TheVariants.{Accepted}
-use Rattle.definitions.specs.declared.QuotientTest.TheVariants.{Degrees}
-use Rattle.definitions.specs.declared.Uniformity.TheVariants.{Value}
-use Rattle.definitions.specs.declared.Lookup.TheVariants.{NoBody}
-use Rattle.definitions.specs.declared.PageAnswer.TheVariants.{NoPage}
-use Rattle.definitions.specs.declared.PointsAnswer.TheVariants.{NotWritten}
-use Rattle.definitions.specs.declared.FileAnswer.TheVariants.{File, NoFile}
 use Rattle.definitions.specs.declared.PageRequest.{PageRequest}
 use Rattle.definitions.specs.declared.Position.{Position}
 use Rattle.definitions.specs.declared.Position.TheVariants.{Start, After}
@@ -73,7 +66,7 @@ module _ (κs : _) (m floor p q : ℕ) (r : _) (e : _) (h : judge.Post κs (m, (
   pub judge_carries : CarriesK m p q (number_of (judgement_values r)) (carried_of (judgement_values r))
   judge_carries = rw h (judging_carries m floor p q)
 
-  pub judge_accepts : (σ : ℕ) → (r ≡ Accepted σ) ↔ Conditions m floor p q σ
+  pub judge_accepts : (σ : ℕ) → (r ≡ Ok σ) ↔ Conditions m floor p q σ
   judge_accepts σ = rw h (accepted_exactly m floor p q σ)
 
 -- ---- the quotient test
@@ -85,14 +78,14 @@ module _ (κs : _) (m p q : ℕ) (r : _) (e : _) (h : test-quotients.Post κs (m
   pub quotients_lowest : LowestGiven (testing m p q) (number_of (quotient_test_values r))
   quotients_lowest = rw h (testing_lowest m p q)
 
-  pub quotients_tested : (k c : ℕ) → (r ≡ Degrees k c) ↔ Tested m p q k c
+  pub quotients_tested : (k c : ℕ) → (r ≡ Ok (record { quotient = k; common = c })) ↔ Tested m p q k c
   quotients_tested k c = rw h (tested_exactly m p q k c)
 
-  pub quotients_tree : LawfulDegree m → (r ≡ Degrees 1 0) ↔ Memᴰ (record { p = p; q = q }) (tree m)
+  pub quotients_tree : LawfulDegree m → (r ≡ Ok (record { quotient = 1; common = 0 })) ↔ Memᴰ (record { p = p; q = q }) (tree m)
   quotients_tree lawful = rw h (tree_tested m p q lawful)
 
   -- Beside it the t-value of the same pair in dimension 2.
-  pub quotients_plane : (κs' : _) (t : _) (e' : _) → t-value.Post κs' (m, (p, (q, (2, tt)))) t e' → (k c : ℕ) → r ≡ Degrees k c → t ≡ Value (max (k - 1) c)
+  pub quotients_plane : (κs' : _) (t : _) (e' : _) → t-value.Post κs' (m, (p, (q, (2, tt)))) t e' → (k c : ℕ) → r ≡ Ok (record { quotient = k; common = c }) → t ≡ Ok (max (k - 1) c)
   quotients_plane κs' t e' g k c d = g ∙ plane_tested m p q k c (sym h ∙ d)
 
 -- ---- a single t-value
@@ -104,7 +97,7 @@ module _ (κs : _) (m p q s : ℕ) (r : _) (e : _) (h : t-value.Post κs (m, (p,
   pub t_value_lowest : LowestGiven (measuring m p q s) (number_of (uniformity_values r))
   t_value_lowest = rw h (measuring_lowest m p q s)
 
-  pub t_value_is_smallest : (t : ℕ) → r ≡ Value t → SmallestNet m p q s t
+  pub t_value_is_smallest : (t : ℕ) → r ≡ Ok t → SmallestNet m p q s t
   t_value_is_smallest t d = uniformity_smallest m p q s t (sym h ∙ d)
 
 -- ---- the same by the plain counter
@@ -116,7 +109,7 @@ module _ (κs : _) (m p q s : ℕ) (r : _) (e : _) (h : count-t-value.Post κs (
   pub count_lowest : LowestGiven (counting m p q s) (number_of (uniformity_values r))
   count_lowest = rw h (counting_lowest m p q s)
 
-  pub count_is_smallest : (t : ℕ) → r ≡ Value t → SmallestNet m p q s t
+  pub count_is_smallest : (t : ℕ) → r ≡ Ok t → SmallestNet m p q s t
   count_is_smallest t d = counted_smallest m p q s t (sym h ∙ d)
 
 -- ---- points
@@ -134,7 +127,7 @@ module _ (κs : _) (m floor p q first : ℕ) (lent : _) (r : _) (e : _) (h : poi
   pub points_carries : CarriesK m p q (number_of (points_values r)) (carried_of (points_values r))
   points_carries = rw h.0 (pointing_carries m floor p q first lent.now)
 
-  pub points_keep : (n : Refusal) → r ≡ NotWritten n → (sixth e).now ≡ lent.now
+  pub points_keep : (n : Refusal) → r ≡ Err n → (sixth e).now ≡ lent.now
   points_keep n d = h.1 ∙ pointing_keeps m floor p q first lent.now n (sym h.0 ∙ d)
 
 -- A pair that judging accepts, from the first word on, into a slice that is long enough.
@@ -156,7 +149,7 @@ module _ (κs : _) (file : _) (m : ℕ) (r : _) (e : _) (h : lookup.Post κs (fi
 
 -- The part is empty where the lookup of the same file and degree is refused.
 pub body_empty : (κs : _) (file : _) (m : ℕ) (r : _) (e : _) → body.Post κs (file, (m, tt)) r e
-    → (n : Refusal) → lookup_numbers file.now m ≡ NoBody n → r.now ≡ []
+    → (n : Refusal) → lookup_numbers file.now m ≡ Err n → r.now ≡ []
 body_empty κs file m r e h n d = h ∙ (looking_empty file.now m n d).0
 
 -- A reader has the refusals of a lookup: its number follows the same situations. Refused, it has the empty part and T = 0, so it is at the end.
@@ -172,7 +165,7 @@ module _ (w : World) (κs : _) (a : ArgsD reader.signature κs) where
       (fact w.𝓤 (Exact (looking file degree) r.refusal))
   reader_exact r e = fact_mono w.𝓤 _ _ (λ x. rw x.0 (reading_exact file degree))
 
-  pub reader_empty : (r : _) (e : _) (n : Refusal) → lookup_numbers file degree ≡ NoBody n
+  pub reader_empty : (r : _) (e : _) (n : Refusal) → lookup_numbers file degree ≡ Err n
       → ent w.𝓤 ((reader.clauses w.𝓛 w.𝓜.mem w.𝓡.run κs a).ensures tt r e)
       (fact w.𝓤 ((r.body.now ≡ []) × (r.top ≡ 0)))
   reader_empty r e n d =
@@ -188,11 +181,11 @@ module _ (κs : _) (floor : ℕ) (entries lent : _) (r : _) (e : _) (h : write.P
   pub write_lowest : LowestGiven (writing floor entries.now lent.now) (number_of (file_values r))
   write_lowest = rw h.0 (writing_lowest floor entries.now lent.now)
 
-  pub write_keeps : (n : Refusal) → r ≡ NoFile n → (third e).now ≡ lent.now
+  pub write_keeps : (n : Refusal) → r ≡ Err n → (third e).now ≡ lent.now
   write_keeps n d = h.1 ∙ writing_keeps floor entries.now lent.now n (sym h.0 ∙ d)
 
   -- ROUND TRIP of `write`.
-  pub write_reads_back : (n : ℕ) → r ≡ File n → WrittenFile floor entries.now lent.now n (third e).now
+  pub write_reads_back : (n : ℕ) → r ≡ Ok n → WrittenFile floor entries.now lent.now n (third e).now
   write_reads_back n d = rw h.1 (written_file floor entries.now lent.now n (sym h.0 ∙ d))
 
 -- ---- a page
@@ -204,7 +197,7 @@ module _ (κs : _) (request : PageRequest) (lent : _) (r : _) (e : _) (h : page.
   pub page_lowest : request.floor ≤ 1 → LowestGiven (base_paging (selection_of request) request.position lent.now) (number_of (page_values r))
   page_lowest low = rw h.0 (base_paging_lowest (selection_of request) request.floor low request.position lent.now)
 
-  pub page_keeps : (n : Refusal) → r ≡ NoPage n → (second e).now ≡ lent.now
+  pub page_keeps : (n : Refusal) → r ≡ Err n → (second e).now ≡ lent.now
   page_keeps n d = h.1 ∙ paging_keeps request lent.now n (sym h.0 ∙ d)
 
 module _ (κs : _) (l : Selection) (p q : ℕ) (lent : _) (r : _) (e : _) (h : page.Post κs (page_request l (After p q), (lent, tt)) r e) where

@@ -5,7 +5,7 @@
 -- An old reader reads what is written without Δ, and says 9 to a file with an entry that has Δ. Assumes nothing.
 use Rattle.std.proofs.Math.Path.{◌≡◌, refl, sym, ap}
 use Rattle.std.proofs.Common.{ap₂, ◌∙◌, subst, arith}
-use Rattle.std.specs.Prelude.{◌↔◌, true, false, ltb, length, get_or}
+use Rattle.std.specs.Prelude.{◌↔◌, true, false, ltb, length, get_or, Ok, Err}
 use Rattle.std.proofs.Math.Bool.{not}
 use mathlib.Core.List.{List, [], ◌∷◌, ◌++◌, map, Memᴰ, append-nil, append_assoc}
 use Prim.Native.Nat.{ℕ, zero, suc, ◌+◌, ◌-◌, ◌/◌, ◌≤◌, ◌<◌}
@@ -25,9 +25,6 @@ use Rattle.definitions.specs.declared.Refusal.TheVariants.{WrongDegree, WrongDim
 use Rattle.definitions.specs.declared.Selection.{Selection}
 use Rattle.definitions.specs.declared.Position.{Position}
 use Rattle.definitions.specs.declared.Position.TheVariants.{Start, After}
-use Rattle.definitions.specs.declared.GapSum.TheVariants.{Sum, NoSum}
-use Rattle.definitions.specs.declared.PageAnswer.TheVariants.{Page, NoPage}
-use Rattle.definitions.specs.declared.Opening.TheVariants.{Closed}
 use Rattle.number_laws.specs.Bounds.{LawfulDegree, lawful_degree_is, lawful_top_is}
 use Rattle.answer_laws.specs.Unless.{NoneApplies, passes, at_end, unless_given, told_given}
 use Rattle.fraction_laws.specs.WellFormed.{WellFormed, well_formed_is}
@@ -74,11 +71,11 @@ module _ (m p q : ℕ) where
   all_pass d w = passes (ap not ((lawful_degree_is m).1 d)) (passes (ap not ((well_formed_is m p q).1 w)) at_end)
 
   -- THE SUM IS GIVEN exactly so.
-  pub gap_sum_exactly : (d : ℕ) → (gap_sum m p q ≡ Sum d) ↔ SumOfGaps m p q d
+  pub gap_sum_exactly : (d : ℕ) → (gap_sum m p q ≡ Ok d) ↔ SumOfGaps m p q d
   unfolding gap_sum
   gap_sum_exactly d = (to, from)
     where
-      to : unless (resolving m p q) NoSum (Sum (sum_of_gaps m p q)) ≡ Sum d → SumOfGaps m p q d
+      to : unless (resolving m p q) Err (Ok (sum_of_gaps m p q)) ≡ Ok d → SumOfGaps m p q d
       to e =
           let g = told_given (resolving m p q) e (λ r k. let z : ◌≡◌ {A = ℕ} 0 1 = cc in omega arith) in
           let v = g.1 in
@@ -91,18 +88,18 @@ module _ (m p q : ℕ) where
             byte = omega (arith, gaps_fit_byte m p q (omega (arith, h.0.high)));
           }
 
-      from : SumOfGaps m p q d → unless (resolving m p q) NoSum (Sum (sum_of_gaps m p q)) ≡ Sum d
+      from : SumOfGaps m p q d → unless (resolving m p q) Err (Ok (sum_of_gaps m p q)) ≡ Ok d
       from g =
           let found = gaps_exactly m p q (resolution m p q) (λ s low high. resolution_is m p q s) in
-          unless_given NoSum _ (all_pass g.lawful g.is_well_formed)
-          ∙ ap Sum (found ∙ sym (g.is (resolution m p q) (λ s low high. resolution_is m p q s)))
+          unless_given Err _ (all_pass g.lawful g.is_well_formed)
+          ∙ ap Ok (found ∙ sym (g.is (resolution m p q) (λ s low high. resolution_is m p q s)))
 
 -- So it is of every well-formed pair of a lawful degree.
 sum_of_pair : (m p q : ℕ) → lawful_degree m ≡ true → well_formed m p q ≡ true → SumOfGaps m p q (sum_of_gaps m p q)
 unfolding gap_sum
 sum_of_pair m p q d w =
     let passes = all_pass m p q ((lawful_degree_is m).0 d) ((well_formed_is m p q).0 w) in
-    (gap_sum_exactly m p q (sum_of_gaps m p q)).0 (unless_given NoSum _ passes)
+    (gap_sum_exactly m p q (sum_of_gaps m p q)).0 (unless_given Err _ passes)
 
 -- ---- of the call, and from C
 
@@ -113,13 +110,13 @@ module _ (κs : _) (m p q : ℕ) (r : _) (e : _) (h : sum-of-gaps.Post κs (m, (
   pub sum_lowest : LowestGiven (resolving m p q) (number_of (gap_sum_values r))
   sum_lowest = rw h (resolving_lowest m p q)
 
-  pub sum_given : (d : ℕ) → (r ≡ Sum d) ↔ SumOfGaps m p q d
+  pub sum_given : (d : ℕ) → (r ≡ Ok d) ↔ SumOfGaps m p q d
   sum_given d = rw h (gap_sum_exactly m p q d)
 
 result_given : (m p q : ℕ) (r : FenyurkaGaps) → r ≡ gaps_result (gap_sum_values (gap_sum m p q)) → r.refusal ≡ 0 → SumOfGaps m p q r.delta
 unfolding gap_sum
 result_given m p q r h z =
-    let given : gap_sum m p q ≡ Sum (sum_of_gaps m p q) = unless_given NoSum _ ((resolving_exact m p q).none.0 (rw h at z)) in
+    let given : gap_sum m p q ≡ Ok (sum_of_gaps m p q) = unless_given Err _ ((resolving_exact m p q).none.0 (rw h at z)) in
     let same : r.delta ≡ sum_of_gaps m p q = rw (h, given) in
     rw same ((gap_sum_exactly m p q (sum_of_gaps m p q)).0 given)
 
@@ -266,8 +263,7 @@ module _ (l : Selection) where
     plain_paging_lem = rw (width_without l)
 
     pub plain_page : page_answer (page_request (without_gaps l) at) s
-        ≡ unless (plain_paging l at s) NoPage (Page (length (page row_key (plain_cut l at) (length s / suc l.top) (plain_ranked l)))
-        (more row_key (plain_cut l at) (length s / suc l.top) (plain_ranked l)))
+        ≡ unless (plain_paging l at s) Err (Ok (record { rows = length (page row_key (plain_cut l at) (length s / suc l.top) (plain_ranked l)); further = more row_key (plain_cut l at) (length s / suc l.top) (plain_ranked l) }))
     unfolding page_answer
     plain_page = rw (plain_paging_lem, plain_rows, plain_further)
 
@@ -308,7 +304,7 @@ module _ (ls : List Selection) (lawful : LawfulEntries 0 ls) where
 
   -- A FILE WITH AN ENTRY THAT HAS Δ: an old reader does not open it, and says 9 for each lawful degree.
   module _ (k : ℕ) (inside : k < length ls) (new : (get_or ls k no_entry).gaps ≡ true) where
-    pub old_opening_lem : old_opening (ranked_file ls) ≡ Closed IllFormedCatalogue
+    pub old_opening_lem : old_opening (ranked_file ls) ≡ Err IllFormedCatalogue
     unfolding ranked_file
     old_opening_lem =
         gaps_not_opened _ (written_new (map ranked_list ls) (lists_lawful lawful) k (omega (arith, length-map ls ranked_list)) (kind_at k ∙ new))

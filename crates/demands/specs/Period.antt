@@ -3,7 +3,7 @@
 -- are the full period, and any further call is refused 8. By what was read so far, call by call. Assumes nothing.
 use Rattle.std.proofs.Math.Path.{◌≡◌, refl}
 use Rattle.std.proofs.Common.{◌∙◌, subst, zero-add, arith, take_at, lt-ltb, le-ltb}
-use Rattle.std.specs.Prelude.{◌↔◌, ℕ, zero, suc, ◌+◌, ◌-◌, ◌≤◌, ◌<◌, min, length}
+use Rattle.std.specs.Prelude.{◌↔◌, ℕ, zero, suc, ◌+◌, ◌-◌, ◌≤◌, ◌<◌, min, length, Ok, Err}
 use mathlib.Core.List.{List, [], ◌∷◌, ◌++◌, Nodup}
 use Rattle.std.proofs.Math.Decide.{dec_lt}
 use Rattle.std.proofs.Math.ListN.{take, length-append}
@@ -13,7 +13,6 @@ use Rattle.definitions.specs.Generator.{period}
 use Rattle.definitions.specs.Points.{words}
 use Rattle.definitions.specs.Calls.{pointing, word_count, points_answer, points_slice}
 use Rattle.definitions.specs.declared.Refusal.TheVariants.{BeyondPeriod}
-use Rattle.definitions.specs.declared.PointsAnswer.TheVariants.{Written, NotWritten}
 use Rattle.answer_laws.specs.Unless.{passes, at_end, none_append, here, decides_behind, unless_given, unless_refused}
 use Rattle.answer_laws.specs.Lent.{points_given}
 use Rattle.order_laws.specs.Words.{length_words, words_append, words_once}
@@ -115,9 +114,9 @@ module _ (m floor p q σ : ℕ) (c : Conditions m floor p q σ) where
 
   -- Within the period,
   module _ (i : ℕ) (inside : i < period m) (s : List ℕ) where
-    points_inside : points_answer m floor p q i s ≡ Written (word_count m i s)
+    points_inside : points_answer m floor p q i s ≡ Ok (word_count m i s)
     unfolding points_answer pointing
-    points_inside = unless_given NotWritten _ (none_append (judging_passes m floor p q σ c) (passes (le-ltb (period m - 1) i (omega arith)) at_end))
+    points_inside = unless_given Err _ (none_append (judging_passes m floor p q σ c) (passes (le-ltb (period m - 1) i (omega arith)) at_end))
 
     words_taken : take (word_count m i s) (points_slice m floor p q i s) ≡ words p q i (word_count m i s)
     words_taken =
@@ -125,11 +124,11 @@ module _ (m floor p q σ : ℕ) (c : Conditions m floor p q σ) where
         (take_at (words p q i (word_count m i s)) _ (word_count m i s) (length_words p q i (word_count m i s)))
 
   -- and at its end.
-  points_behind : (s : List ℕ) → points_answer m floor p q (period m) s ≡ NotWritten BeyondPeriod
+  points_behind : (s : List ℕ) → points_answer m floor p q (period m) s ≡ Err BeyondPeriod
   unfolding points_answer pointing
   points_behind s =
       let some : 0 < period m = omega (arith, c.is_step.below) in
-      unless_refused NotWritten _ (decides_behind (judging_passes m floor p q σ c) (here (lt-ltb (period m - 1) (period m) (omega arith))))
+      unless_refused Err _ (decides_behind (judging_passes m floor p q σ c) (here (lt-ltb (period m - 1) (period m) (omega arith))))
 
   -- ---- call by call
 

@@ -4,7 +4,7 @@
 -- factor. From the laws of K, and from which of a pair's situations decides. Assumes nothing.
 use Rattle.std.proofs.Math.Path.{◌≡◌, refl, ap}
 use Rattle.std.proofs.Common.{◌∙◌, inl, arith}
-use Rattle.std.specs.Prelude.{◌≢◌, ◌↔◌, true, false, ℕ, ◌-◌, ◌≤◌, max, ltb, length, get_or}
+use Rattle.std.specs.Prelude.{◌≢◌, ◌↔◌, true, false, ℕ, ◌-◌, ◌≤◌, max, ltb, length, get_or, Ok, Err}
 use Rattle.std.proofs.Math.Bool.{not}
 use mathlib.Core.List.{List, [], ◌∷◌, ◌++◌, Memᴰ}
 use Rattle.std.proofs.lemmas.Bool.{not-true, not-false}
@@ -21,11 +21,6 @@ use Rattle.definitions.specs.declared.Refusal.TheVariants.{ShortSlice, BeyondPer
 use Rattle.definitions.specs.declared.Refusal.TheVariants.{StepBelowFloor, WrongFloor}
 use Rattle.definitions.specs.declared.Selection.{Selection}
 use Rattle.definitions.specs.declared.Position.TheVariants.{Start, After}
-use Rattle.definitions.specs.declared.Judgement.TheVariants.{Rejected}
-use Rattle.definitions.specs.declared.QuotientTest.TheVariants.{Degrees}
-use Rattle.definitions.specs.declared.Uniformity.TheVariants.{Value, Undefined}
-use Rattle.definitions.specs.declared.PageAnswer.TheVariants.{NoPage}
-use Rattle.definitions.specs.declared.PointsAnswer.TheVariants.{NotWritten}
 use Rattle.number_laws.specs.Bounds.{LawfulDegree, lawful_degree_is}
 use Rattle.number_laws.specs.Truth.{truth_false}
 use Rattle.answer_laws.specs.Unless.{Decides, here, later, NoneApplies, passes, at_end, Outcome, is_refused, is_given, outcome, decides_none}
@@ -54,7 +49,7 @@ pub record Tested (m p q k c : ℕ) : Type 0 where
   pub common : CommonFactor p q c
 
 module _ (m p q : ℕ) where
-  values_tested : LawfulDegree m → WellFormed m p q → quotient_test m p q ≡ Degrees (quotient_degree p q) (common_degree p q)
+  values_tested : LawfulDegree m → WellFormed m p q → quotient_test m p q ≡ Ok (record { quotient = quotient_degree p q; common = common_degree p q })
   values_tested lawful w = tested m p q ((lawful_degree_is m).1 lawful) ((well_formed_is m p q).1 w)
 
   passes_testing : NoneApplies (testing m p q) → LawfulDegree m × WellFormed m p q
@@ -62,11 +57,11 @@ module _ (m p q : ℕ) where
   passes_testing (passes a (passes b at_end)) = ((lawful_degree_is m).0 (not-false _ a), (well_formed_is m p q).0 (not-false _ b))
 
   -- THE TEST answers K and the common factor's degree, of every well-formed pair, and nothing else.
-  pub tested_exactly : (k c : ℕ) → (quotient_test m p q ≡ Degrees k c) ↔ Tested m p q k c
+  pub tested_exactly : (k c : ℕ) → (quotient_test m p q ≡ Ok (record { quotient = k; common = c })) ↔ Tested m p q k c
   unfolding quotient_test
   tested_exactly k c = (to, from)
     where
-      to : quotient_test m p q ≡ Degrees k c → Tested m p q k c
+      to : quotient_test m p q ≡ Ok (record { quotient = k; common = c }) → Tested m p q k c
       to e =
           let t = told_given (testing m p q) e (λ r d. let z : ◌≡◌ {A = ℕ} 0 1 = cc in omega arith) in
           let same = t.1 in
@@ -80,7 +75,7 @@ module _ (m p q : ℕ) where
             common = rw c-is at (common_degree_factor p q (positive formed.1.degree_p));
           }
 
-      from : Tested m p q k c → quotient_test m p q ≡ Degrees k c
+      from : Tested m p q k c → quotient_test m p q ≡ Ok (record { quotient = k; common = c })
       from t =
           let w = t.is_well_formed in
           let k-is = largest_quotient_degree p q w.nonzero k t.largest in
@@ -90,7 +85,7 @@ module _ (m p q : ℕ) where
 -- ---- the tree, and dimension 2
 
 module _ (m p q : ℕ) where
-  tested_values : {k c : ℕ} → quotient_test m p q ≡ Degrees k c → (LawfulDegree m × WellFormed m p q) × (quotient_degree p q ≡ k) × (common_degree p q ≡ c)
+  tested_values : {k c : ℕ} → quotient_test m p q ≡ Ok (record { quotient = k; common = c }) → (LawfulDegree m × WellFormed m p q) × (quotient_degree p q ≡ k) × (common_degree p q ≡ c)
   tested_values {k} {c} e =
       let t = (tested_exactly m p q k c).0 e in
       let w = t.is_well_formed in (
@@ -100,10 +95,10 @@ module _ (m p q : ℕ) where
       )
 
   -- OF THE TREE is a pair just where the test answers 1 and 0.
-  pub tree_tested : LawfulDegree m → (quotient_test m p q ≡ Degrees 1 0) ↔ Memᴰ (record { p = p; q = q }) (tree m)
+  pub tree_tested : LawfulDegree m → (quotient_test m p q ≡ Ok (record { quotient = 1; common = 0 })) ↔ Memᴰ (record { p = p; q = q }) (tree m)
   tree_tested lawful =
       let low : 1 ≤ m = omega (arith, lawful.low) in (
-        λ (e : quotient_test m p q ≡ Degrees 1 0).
+        λ (e : quotient_test m p q ≡ Ok (record { quotient = 1; common = 0 })).
             let t = tested_values e in
             (tree_degrees m p q low).1 (t.0.1, t.1, t.2),
         λ (i : Memᴰ (record { p = p; q = q }) (tree m)).
@@ -112,20 +107,20 @@ module _ (m p q : ℕ) where
       )
 
   -- t(2) is K - 1 or the common factor's degree, whichever is larger,
-  pub plane_tested : (k c : ℕ) → quotient_test m p q ≡ Degrees k c → uniformity m p q 2 ≡ Value (max (k - 1) c)
+  pub plane_tested : (k c : ℕ) → quotient_test m p q ≡ Ok (record { quotient = k; common = c }) → uniformity m p q 2 ≡ Ok (max (k - 1) c)
   unfolding uniformity measuring
   plane_tested k c e =
       let t = tested_values e in
       let lawful = (lawful_degree_is m).1 t.0.0 in
       let formed = (well_formed_is m p q).1 t.0.1 in
-      unless_given Undefined (Value (t_value m p q 2)) (passes (ap not lawful) (passes refl (passes (ap not formed) at_end)))
-      ∙ ap Value (t_value_plane t.0.1 ∙ rw (t.1, t.2))
+      unless_given Err (Ok (t_value m p q 2)) (passes (ap not lawful) (passes refl (passes (ap not formed) at_end)))
+      ∙ ap Ok (t_value_plane t.0.1 ∙ rw (t.1, t.2))
 
   -- so K - 1 WHERE THERE IS NO COMMON FACTOR.
-  pub plane_coprime : (k : ℕ) → quotient_test m p q ≡ Degrees k 0 → uniformity m p q 2 ≡ Value (k - 1)
+  pub plane_coprime : (k : ℕ) → quotient_test m p q ≡ Ok (record { quotient = k; common = 0 }) → uniformity m p q 2 ≡ Ok (k - 1)
   plane_coprime k e =
       let same : max (k - 1) 0 ≡ k - 1 = omega arith in
-      plane_tested k 0 e ∙ ap Value same
+      plane_tested k 0 e ∙ ap Ok same
 
 -- ---- when 5 is given
 
@@ -150,13 +145,13 @@ first_tests m floor = situation (not (lawful_degree m)) WrongDegree ∷ situatio
 module _ (k m floor p q : ℕ) where
   pub judging_unchanged : number_of (judgement_values (judgement m floor p q)) ≡ given (first_tests m floor ++ pair_tests k m floor p q)
   unfolding judging pair_situations judgement given unless
-  judging_unchanged = unless_both (λ a n. number_of (judgement_values a) ≡ n) (judging m floor p q) Rejected _ refusal_number 0 (λ r. refl) refl
+  judging_unchanged = unless_both (λ a n. number_of (judgement_values a) ≡ n) (judging m floor p q) Err _ refusal_number 0 (λ r. refl) refl
 
   -- by points,
   pub pointing_unchanged : (i : ℕ) (s : List ℕ) → number_of (points_values (points_answer m floor p q i s))
       ≡ given (first_tests m floor ++ (pair_tests k m floor p q ++ situation (ltb (period m - 1) i) BeyondPeriod ∷ []))
   unfolding pointing judging pair_situations points_answer given unless
-  pointing_unchanged i s = unless_both (λ a n. number_of (points_values a) ≡ n) (pointing m floor p q i) NotWritten _ refusal_number 0 (λ r. refl) refl
+  pointing_unchanged i s = unless_both (λ a n. number_of (points_values a) ≡ n) (pointing m floor p q i) Err _ refusal_number 0 (λ r. refl) refl
 
 -- and by pages.
 pub paging_unchanged : (k : ℕ) (l : Selection) (p q : ℕ) (s : List ℕ) → number_of (page_values (page_answer (page_request l (After p q)) s))
@@ -164,7 +159,7 @@ pub paging_unchanged : (k : ℕ) (l : Selection) (p q : ℕ) (s : List ℕ) → 
     ∷ situation (not (lawful_floor l.floor)) WrongFloor ∷ pair_tests k l.degree l.floor p q ++ situation (ltb (length s) (row_width l)) ShortSlice ∷ [])
 unfolding paging position_situations pair_situations page_answer given unless
 paging_unchanged k l p q s =
-    unless_both (λ a n. number_of (page_values a) ≡ n) (paging (page_request l (After p q)) s) NoPage _ refusal_number 0 (λ r. refl) refl
+    unless_both (λ a n. number_of (page_values a) ≡ n) (paging (page_request l (After p q)) s) Err _ refusal_number 0 (λ r. refl) refl
 
 -- ---- what 5 carries
 
@@ -276,7 +271,7 @@ module _ (m floor p q : ℕ) where
 
   pub judging_carries : CarriesK m p q (number_of (judgement_values (judgement m floor p q))) (carried_of (judgement_values (judgement m floor p q)))
   unfolding judgement
-  judging_carries = carries m p q judgement_values (judging m floor p q) Rejected _ (λ r. judging_five) (λ r. (refl, refl)) refl refl
+  judging_carries = carries m p q judgement_values (judging m floor p q) Err _ (λ r. judging_five) (λ r. (refl, refl)) refl refl
 
   -- in points,
   module _ (i : ℕ) where
@@ -290,7 +285,7 @@ module _ (m floor p q : ℕ) where
 
     pub pointing_carries : (s : List ℕ) → let values = points_values (points_answer m floor p q i s) in CarriesK m p q (number_of values) (carried_of values)
     unfolding points_answer
-    pointing_carries s = carries m p q points_values (pointing m floor p q i) NotWritten _ (λ r. pointing_five) (λ r. (refl, refl)) refl refl
+    pointing_carries s = carries m p q points_values (pointing m floor p q i) Err _ (λ r. pointing_five) (λ r. (refl, refl)) refl refl
 
 -- and in pages after a pair;
 module _ (l : Selection) (p q : ℕ) (s : List ℕ) where
@@ -305,7 +300,7 @@ module _ (l : Selection) (p q : ℕ) (s : List ℕ) where
 
   pub paging_carries : let values = page_values (page_answer (page_request l (After p q)) s) in CarriesK l.degree p q (number_of values) (carried_of values)
   unfolding page_answer
-  paging_carries = carries l.degree p q page_values (paging (page_request l (After p q)) s) NoPage _ (λ r. paging_five) (λ r. (refl, refl)) refl refl
+  paging_carries = carries l.degree p q page_values (paging (page_request l (After p q)) s) Err _ (λ r. paging_five) (λ r. (refl, refl)) refl refl
 
 -- the first page is of no pair, and carries nothing.
 pub paging_first_carries : (l : Selection) (s : List ℕ) → carried_of (page_values (page_answer (page_request l Start) s)) ≡ 0
@@ -320,5 +315,5 @@ paging_first_carries l s = go (outcome (paging (page_request l Start) s))
     none (later a (later b (later c (later d e)))) = absurd (decides_none e)
 
     go : Outcome (paging (page_request l Start) s) → carried_of (page_values (page_answer (page_request l Start) s)) ≡ 0
-    go (is_refused d) = rw (unless_refused NoPage _ d) (none d)
-    go (is_given n) = rw (unless_given NoPage _ n)
+    go (is_refused d) = rw (unless_refused Err _ d) (none d)
+    go (is_given n) = rw (unless_given Err _ n)

@@ -6,7 +6,7 @@ ghost use Rattle.std.specs.Prelude.{◌≡◌};
 ghost use Rattle.definitions.specs.Answers.{uniformity_values, gap_sum_values};
 ghost use Rattle.figure_results.specs.Results.{t_value_result, gaps_result};
 
-use definitions::{GapSum, Uniformity};
+use definitions::Refusal;
 
 // A t-value.
 #[repr(C)]
@@ -16,15 +16,17 @@ pub struct FenyurkaTValue {
     pub t: u32,
 }
 
-pub fn t_value(answer: Uniformity) -> FenyurkaTValue
-    ensures { result ≡ t_value_result (uniformity_values answer) }
-{
-    match answer {
-        Uniformity::Value(t) => FenyurkaTValue { refusal: 0, t },
-        Uniformity::Undefined(refusal) => FenyurkaTValue {
-            refusal: answers::refusal_number(refusal),
-            t: 0,
-        },
+impl From<Result<u32, Refusal>> for FenyurkaTValue {
+    ghost from_gives = { λ answer r. r ≡ t_value_result (uniformity_values answer) };
+
+    fn from(answer: Result<u32, Refusal>) -> FenyurkaTValue {
+        match answer {
+            Ok(t) => FenyurkaTValue { refusal: 0, t },
+            Err(refusal) => FenyurkaTValue {
+                refusal: answers::refusal_number(refusal),
+                t: 0,
+            },
+        }
     }
 }
 
@@ -36,14 +38,16 @@ pub struct FenyurkaGaps {
     pub delta: u32,
 }
 
-pub fn gaps(answer: GapSum) -> FenyurkaGaps
-    ensures { result ≡ gaps_result (gap_sum_values answer) }
-{
-    match answer {
-        GapSum::Sum(delta) => FenyurkaGaps { refusal: 0, delta },
-        GapSum::NoSum(refusal) => FenyurkaGaps {
-            refusal: answers::refusal_number(refusal),
-            delta: 0,
-        },
+impl From<Result<u32, Refusal>> for FenyurkaGaps {
+    ghost from_gives = { λ answer r. r ≡ gaps_result (gap_sum_values answer) };
+
+    fn from(answer: Result<u32, Refusal>) -> FenyurkaGaps {
+        match answer {
+            Ok(delta) => FenyurkaGaps { refusal: 0, delta },
+            Err(refusal) => FenyurkaGaps {
+                refusal: answers::refusal_number(refusal),
+                delta: 0,
+            },
+        }
     }
 }

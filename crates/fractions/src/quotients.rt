@@ -5,6 +5,7 @@ ghost use Rattle.polynomial.specs.Modulus.{Modulus};
 
 // Whether every partial quotient of q/p has degree one and p and q have no common factor. Euclid's step from (a, b), where `lead_of_a` is the leading
 // term of a: the quotient has degree one where b has the digit below; then x b or (x + 1) b is taken from a. The first other quotient decides.
+// p and its leading term stay apart, as docs/CONFORMANCE.md names this function.
 pub fn linear_quotients(p: u32, q: u32, lead: u32) -> bool
     requires modulus { Modulus p lead }
     requires q_lt_lead { q < lead }

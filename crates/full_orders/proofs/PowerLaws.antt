@@ -8,9 +8,9 @@ use native.Mathlib.Omega.{arith}
 use lib.Pow.{pow_pos, pow-add}
 use borrow.Author.Tests.{eq-eqb, ne_eqb}
 use Rattle.definitions.specs.Polynomial.{prod, power, rem}
-use Rattle.definitions.specs.Generator.{largest_degree, period, primitive}
+use Rattle.definitions.specs.Generator.{period, primitive}
 use Rattle.definitions.specs.Points.{state}
-use Rattle.number_laws.specs.Bounds.{LawfulDegree, lead_low, lead_high}
+use Rattle.number_laws.specs.Bounds.{LawfulDegree, lead_low}
 use Rattle.polynomial_laws.specs.Degree.{HasDegree}
 use Rattle.polynomial_laws.specs.Product.{prod_comm}
 use Rattle.polynomial_laws.specs.Power.{rem_power_add}

@@ -4,20 +4,20 @@
 ghost use Rattle.std.specs.Prelude.{◌≡◌};
 ghost use Rattle.definitions.specs.Calls.{judgement};
 
-use definitions::{Judgement, Refusal};
+use definitions::Refusal;
 
 pub mod common_divisor; // the greatest common divisor of two numbers
 pub mod pair; // judging a pair of a lawful degree
 
 // The step of a pair of the degree given, which is at least the floor; or the documents' refusal 1, 12, 3, 4, 5, 6 or 11.
-pub fn judge(degree: u32, floor: u32, p: u32, q: u32) -> Judgement
+pub fn judge(degree: u32, floor: u32, p: u32, q: u32) -> Result<u32, Refusal>
     ensures { result ≡ judgement degree floor p q }
 {
     if !limits::is_lawful_degree(degree) {
-        return Judgement::Rejected(Refusal::WrongDegree);
+        return Err(Refusal::WrongDegree);
     }
     if !limits::is_lawful_floor(floor) {
-        return Judgement::Rejected(Refusal::WrongFloor);
+        return Err(Refusal::WrongFloor);
     }
     pair::judge_pair(degree, floor, p, q)
 }

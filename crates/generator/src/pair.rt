@@ -4,27 +4,22 @@ ghost use Rattle.number_laws.specs.Bounds.{LawfulDegree};
 ghost use Rattle.generator.specs.Judging.{pair_judgement};
 
 use crate::common_divisor;
-use definitions::{Judgement, Refusal};
+use definitions::Refusal;
 use orders::{floors, step};
 use polynomial::digits;
-use verdicts::Verdict;
 
 // The step of a pair, or the same refusal: here the step is looked for, and itself held to 2^m - 1; the floor is tested by the powers of x below it.
-pub fn judge_pair(m: u32, floor: u32, p: u32, q: u32) -> Judgement
+pub fn judge_pair(m: u32, floor: u32, p: u32, q: u32) -> Result<u32, Refusal>
     requires { LawfulDegree m }
     ensures { result ≡ pair_judgement m floor p q }
 {
-    match verdicts::check_polynomials(m, p, q) {
-        Verdict::Refused(refusal) => Judgement::Rejected(refusal),
-        Verdict::Passed => {
-            let step = step::find_step(m, p, q);
-            if common_divisor::gcd_of(step, digits::leading_term(m) - 1) != 1 {
-                return Judgement::Rejected(Refusal::StepNotCoprime);
-            }
-            if !floors::reaches_floor(m, floor, p, q) {
-                return Judgement::Rejected(Refusal::StepBelowFloor);
-            }
-            Judgement::Accepted(step)
-        }
+    verdicts::check_polynomials(m, p, q)?;
+    let step = step::find_step(m, p, q);
+    if common_divisor::gcd_of(step, digits::leading_term(m) - 1) != 1 {
+        return Err(Refusal::StepNotCoprime);
     }
+    if !floors::reaches_floor(m, floor, p, q) {
+        return Err(Refusal::StepBelowFloor);
+    }
+    Ok(step)
 }

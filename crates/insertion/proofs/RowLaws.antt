@@ -1,6 +1,6 @@
 -- A row is put in by two copies: the numbers behind its slot moved up within the slice, and the row written over its place. Assumes nothing.
-use Rattle.std.proofs.Common.{◌≡◌, ℕ, suc, ◌+◌, ◌-◌, ◌*◌, ◌≤◌, ◌<◌, List, ◌++◌, length, take, drop, sym, ◌∙◌, arith, append_assoc, mul-le-mul_right}
-use Rattle.std.proofs.Math.Seq.{slice, length-slice, length-take-le}
+use Rattle.std.proofs.Common.{◌≡◌, ℕ, suc, ◌+◌, ◌-◌, ◌*◌, ◌≤◌, ◌<◌, List, length, take, drop, sym, ◌∙◌, arith, append_assoc, mul-le-mul_right}
+use Rattle.std.proofs.Math.Seq.{slice, length-slice}
 use Rattle.std.proofs.lemmas.Slice.{between_is, put_mid-paste}
 use Rattle.std.proofs.lemmas.List.Edits.{paste_all}
 use Rattle.std.specs.List.{copy_within}
@@ -26,10 +26,9 @@ put_over at k v s e =
     ∙ sym (append_assoc (take at s) v (drop (at + length v) s))
     ∙ sym (over_def at v s)
 
-pub row_put : (from to w : ℕ) (row s : List ℕ) {mid new : List ℕ} → w ≤ length row → from ≤ to → to + w ≤ length s
-    → mid ≡ copy_within s from to (from + w) → new ≡ take w row → put_mid from (from + w - from) mid new ≡ spliced from to (take w row) s
-row_put from to w row s wide h room e f =
-    let l = length-take-le w row wide in
-    rw (e, f, moved from to w s h room)
-    (put_over from (from + w - from) (take w row) (shifted from to w s) (omega arith)
-    ∙ rw l at (over_before from (take w row) (slice from to s) s (omega arith)))
+pub row_put : (from to : ℕ) (row s : List ℕ) {mid new : List ℕ} → from ≤ to → to + length row ≤ length s → mid ≡ copy_within s from to (from + length row)
+    → new ≡ row → put_mid from (from + length row - from) mid new ≡ spliced from to row s
+row_put from to row s h room e f =
+    rw (e, f, moved from to (length row) s h room)
+    (put_over from (from + length row - from) row (shifted from to (length row) s) (omega arith)
+    ∙ over_before from row (slice from to s) s (omega arith))

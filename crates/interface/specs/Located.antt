@@ -1,11 +1,11 @@
 -- Where a degree's body lies in a catalogue, for C, which gets no part of a slice but a place and numbers.
 -- They are those of a lookup, and give the very part that a lookup gives, as both are read off where the body lies. Assumes nothing.
-use Rattle.std.specs.Prelude.{◌≡◌, refl, List, ℕ, ◌+◌, ◌*◌, ◌≤◌, length, take, drop}
+use Rattle.std.specs.Prelude.{◌≡◌, refl, List, ℕ, ◌+◌, ◌*◌, ◌≤◌, length, take, drop, Result, Ok, Err}
 use Rattle.std.proofs.Common.{arith}
 use Rattle.definitions.specs.Answers.{lookup_values}
 use Rattle.definitions.specs.Catalogue.{lookup_numbers, lookup_part}
-use Rattle.catalogue_seek.specs.declared.Located.{Located}
-use Rattle.catalogue_seek.specs.declared.Located.TheVariants.{At, Missing}
+use Rattle.catalogue_seek.specs.declared.BodyPlace.{BodyPlace}
+use Rattle.definitions.specs.declared.Refusal.{Refusal}
 use Rattle.catalogue_seek.specs.Seek as seek
 use Rattle.answers.specs.Values.{value}
 use Rattle.catalogue_results.specs.Results.{body_result}
@@ -32,15 +32,15 @@ module _ (s : List ℕ) (m : ℕ) where
   pub located_values : SameLookup (lookup_values (lookup_numbers s m)) (located s m)
   located_values = rw (← seek.located_numbers s m) (go (seek.locating s m))
     where
-      go : (k : Located) → SameLookup (lookup_values (seek.numbers_of k)) (body_result k)
-      go (At b) = record { refusal = refl; top = refl; gaps = refl; rows = refl }
-      go (Missing r) = record { refusal = refl; top = refl; gaps = refl; rows = refl }
+      go : (k : Result BodyPlace Refusal) → SameLookup (lookup_values (seek.numbers_of k)) (body_result k)
+      go (Ok b) = record { refusal = refl; top = refl; gaps = refl; rows = refl }
+      go (Err r) = record { refusal = refl; top = refl; gaps = refl; rows = refl }
 
   pub located_part : BodyPart s (lookup_part s m) (located s m)
   located_part = rw (← seek.located_part s m) (go (seek.locating s m) refl)
     where
-      go : (k : Located) → seek.locating s m ≡ k → BodyPart s (seek.part_of s k) (body_result k)
-      go (At b) at =
+      go : (k : Result BodyPlace Refusal) → seek.locating s m ≡ k → BodyPart s (seek.part_of s k) (body_result k)
+      go (Ok b) at =
           let lawful = seek.located_lawful s m b at in
           record { within = lawful.within; same = refl; whole = lawful.size_is }
-      go (Missing r) at = record { within = omega arith; same = refl; whole = refl }
+      go (Err r) at = record { within = omega arith; same = refl; whole = refl }

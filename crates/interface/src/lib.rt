@@ -50,35 +50,35 @@ fn page_request(list: FenyurkaList, position: Position) -> PageRequest
 pub fn fenyurka_judge(degree: u32, floor: u32, p: u32, q: u32) -> FenyurkaJudgement
     ensures { result ≡ judgement_result (judgement_values (judgement degree floor p q)) }
 {
-    pair_results::judgement(generator::judge(degree, floor, p, q))
+    FenyurkaJudgement::from(generator::judge(degree, floor, p, q))
 }
 
 // How bad a pair's quotients are.
 pub fn fenyurka_quotients(degree: u32, p: u32, q: u32) -> FenyurkaQuotients
     ensures { result ≡ quotients_result (quotient_test_values (quotient_test degree p q)) }
 {
-    pair_results::quotients(quotient_test::test_quotients(degree, p, q))
+    FenyurkaQuotients::from(quotient_test::test_quotients(degree, p, q))
 }
 
 // The t-value of a pair in one dimension.
 pub fn fenyurka_t_value(degree: u32, p: u32, q: u32, dimension: u32) -> FenyurkaTValue
     ensures { result ≡ t_value_result (uniformity_values (uniformity degree p q dimension)) }
 {
-    figure_results::t_value(net::t_value(degree, p, q, dimension))
+    FenyurkaTValue::from(net::t_value(degree, p, q, dimension))
 }
 
 // The same by the plain counter, for degrees 2 to 8.
 pub fn fenyurka_count_t_value(degree: u32, p: u32, q: u32, dimension: u32) -> FenyurkaTValue
     ensures { result ≡ t_value_result (uniformity_values (counted degree p q dimension)) }
 {
-    figure_results::t_value(counter::count_t_value(degree, p, q, dimension))
+    FenyurkaTValue::from(counter::count_t_value(degree, p, q, dimension))
 }
 
 // The sum of resolution gaps of a pair.
 pub fn fenyurka_sum_of_gaps(degree: u32, p: u32, q: u32) -> FenyurkaGaps
     ensures { result ≡ gaps_result (gap_sum_values (gap_sum degree p q)) }
 {
-    figure_results::gaps(gaps::sum_of_gaps(degree, p, q))
+    FenyurkaGaps::from(gaps::sum_of_gaps(degree, p, q))
 }
 
 // The first rows of a ranked list: how many, and whether a further row exists.
@@ -86,7 +86,7 @@ pub fn fenyurka_first_page(list: FenyurkaList, rows: &mut [u32]) -> FenyurkaPage
     ensures value { result ≡ page_result (page_values (page_answer (page_of list Position.Start) rows.old)) }
     ensures rows_after { rows.new ≡ page_slice (page_of list Position.Start) rows.old }
 {
-    slice_results::page(ranking::page(page_request(list, Position::Start), rows))
+    FenyurkaPage::from(ranking::page(page_request(list, Position::Start), rows))
 }
 
 // The same for the rows after a pair.
@@ -94,7 +94,7 @@ pub fn fenyurka_page_after(list: FenyurkaList, p: u32, q: u32, rows: &mut [u32])
     ensures value { result ≡ page_result (page_values (page_answer (page_of list (Position.After p q)) rows.old)) }
     ensures rows_after { rows.new ≡ page_slice (page_of list (Position.After p q)) rows.old }
 {
-    slice_results::page(ranking::page(page_request(list, Position::After(p, q)), rows))
+    FenyurkaPage::from(ranking::page(page_request(list, Position::After(p, q)), rows))
 }
 
 // Words of a pair's period, the step at least the floor, and how many were written.
@@ -109,21 +109,21 @@ pub fn fenyurka_points(
     ensures value { result ≡ points_result (points_values (points_answer degree floor p q first words.old)) }
     ensures words_after { words.new ≡ points_slice degree floor p q first words.old }
 {
-    slice_results::points(points::points(degree, floor, p, q, first, words))
+    FenyurkaPoints::from(points::points(degree, floor, p, q, first, words))
 }
 
 // How many degrees a catalogue has.
 pub fn fenyurka_open(file: &[u8]) -> FenyurkaCatalogue
     ensures { result ≡ catalogue_result (opening_values (opening file.now)) }
 {
-    catalogue_results::catalogue(catalogue::open(file))
+    FenyurkaCatalogue::from(catalogue::open(file))
 }
 
 // A degree's body: its top dimension, whether its rows have Δ, its row count, where it lies in the file, and how many bytes it and a row of it have.
 pub fn fenyurka_lookup(file: &[u8], degree: u32) -> FenyurkaBody
     ensures { result ≡ located file.now degree }
 {
-    catalogue_results::body(catalogue_seek::locate(file, degree))
+    FenyurkaBody::from(catalogue_seek::locate(file, degree))
 }
 
 // The row at a place of a body and the place behind it, or the end.
@@ -144,5 +144,5 @@ pub fn fenyurka_write(floor: u32, entries: &[u32], file: &mut [u8]) -> FenyurkaF
     ensures value { result ≡ file_result (file_values (file_answer floor entries.now file.old)) }
     ensures file_after { file.new ≡ file_buffer floor entries.now file.old }
 {
-    catalogue_results::file(catalogue_writer::write(floor, entries, file))
+    FenyurkaFile::from(catalogue_writer::write(floor, entries, file))
 }

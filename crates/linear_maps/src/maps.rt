@@ -59,7 +59,7 @@ fn fill<N: Fn(u32) -> u32>(residues: Residues, first: u32, next: N) -> [u32; ENT
     let mut image = first;
     let mut base: usize = 0;
     let mut unit: u32 = 1;
-    // While: the unit is multiplied and ends the loop; a `for` over the places needs it, and a test, besides.
+    // While: after a `for` over `chunks_exact_mut` a proof knows the length of the table and not what the chunks hold.
     while unit < residues.lead {
         image = fill_block(&mut table, base, residues, image, &next);
         base += BLOCK;

@@ -6,13 +6,13 @@ ghost use Rattle.std.specs.Prelude.{◌≡◌};
 ghost use Rattle.definitions.specs.Listing.{decimal, header_text, row_text, page_text, total_text, refused_text, read_line};
 ghost use Rattle.slice_laws.specs.Place.{placed, behind};
 
-use definitions::Line;
+use definitions::Asked;
 
 // The largest page size.
 pub const LARGEST_SIZE: u32 = 1000;
 
 // The line that is asked with, and the defaults for what it does not say; what follows a newline is not read.
-pub fn read_line(input: &[u8]) -> Line
+pub fn read_line(input: &[u8]) -> Option<Asked>
     ensures { result ≡ read_line input.now }
 {
     asked_line::read_line(input)

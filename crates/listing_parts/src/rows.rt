@@ -38,19 +38,16 @@ pub(crate) fn next_rows(
             next: Printing::Total(done),
         };
     }
-    let bytes = put_rows(text, rows, width, count, size, done, portion.more);
+    let further = portion.next.is_some();
+    let bytes = put_rows(text, rows, width, count, size, done, further);
     let printed = done + count as u32;
-    if portion.more {
-        let behind = portion.next;
-        return Part {
-            bytes,
-            more: true,
-            next: Printing::Rows(behind, size, printed),
-        };
-    }
+    let next = match portion.next {
+        Some(behind) => Printing::Rows(behind, size, printed),
+        None => Printing::Total(printed),
+    };
     Part {
         bytes,
         more: true,
-        next: Printing::Total(printed),
+        next,
     }
 }

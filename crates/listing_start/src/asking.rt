@@ -1,11 +1,10 @@
 // What is printed upon a line that can be read.
-ghost use Rattle.std.specs.Prelude.{◌≡◌};
+ghost use Rattle.std.specs.Prelude.{◌≡◌, Some};
 ghost use Rattle.definitions.specs.Answers.{refusal_number};
-ghost use Rattle.definitions.specs.declared.Line.TheVariants.{Asked};
 ghost use Rattle.listing_start.specs.Decision.{printing_of};
 
 use crate::Printing;
-use definitions::{Refusal, Selection};
+use definitions::{Asked, Refusal, Selection};
 
 // The refusal that belongs to programs alone.
 pub(crate) const UNREADABLE: u32 = 0;
@@ -18,9 +17,15 @@ fn refuse(refusal: Refusal) -> Printing
 }
 
 // The list, or its refusal: an unlawful page size first, then the refusals of a page, which no row fits where the size is 0.
-pub(crate) fn decide(degree: u32, top: u32, size: u32, floor: u32) -> Printing
-    ensures { result ≡ printing_of (Asked degree top size floor) }
+pub(crate) fn decide(asked: Asked) -> Printing
+    ensures { result ≡ printing_of (Some asked) }
 {
+    let Asked {
+        degree,
+        top,
+        size,
+        floor,
+    } = asked;
     if size > listing::LARGEST_SIZE {
         return Printing::Refused(UNREADABLE);
     }

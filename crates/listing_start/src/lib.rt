@@ -9,7 +9,7 @@ ghost use Rattle.listing_start.specs.Decision.{printing_of};
 mod asking; // what is printed upon a line that can be read
 
 use cursor::reading::Cursor;
-use definitions::{Line, Selection};
+use definitions::Selection;
 
 // What is left to print.
 #[derive(Clone, Copy)]
@@ -31,7 +31,7 @@ pub fn start(input: &[u8]) -> Printing
     ensures { result ≡ printing_of (read_line input.now) }
 {
     match listing::read_line(input) {
-        Line::Asked(degree, top, size, floor) => asking::decide(degree, top, size, floor),
-        Line::Unreadable => Printing::Refused(asking::UNREADABLE),
+        Some(asked) => asking::decide(asked),
+        None => Printing::Refused(asking::UNREADABLE),
     }
 }

@@ -2,7 +2,9 @@
 -- without their steps, and are counted; above the start are all. With their steps written the rows are whole. The row at the position ranks by its
 -- key alone, which has no step. Assumes nothing.
 use mathlib.Core.Path.{◌≡◌, sym, ap, ap₂, ◌∙◌}
-use mathlib.Core.Bool.{Bool, true, false}
+use Rattle.std.specs.Prelude.{Option, None}
+use Rattle.std.specs.Borrow.{Bor}
+use mathlib.Core.Bool.{true}
 use mathlib.Core.List.Memᴰ
 use mathlib.Core.List.{List, map, Memᴰ}
 use Prim.Native.Nat.{ℕ, ◌-◌, ◌*◌, ◌/◌, ◌≤◌}
@@ -10,10 +12,10 @@ use native.Mathlib.Nat.{div-mul-le_self, le-div_iff_mul-le, mul-le-mul_right}
 use native.Mathlib.Omega.{arith}
 use lib.Dec.{ltb}
 use lib.Pow.{pow_mono}
-use lib.ListN.{length, take, length-take, length-map}
+use lib.ListN.{length, length-take, length-map}
 use Rattle.definitions.specs.Generator.{Pair, accepted, pairs_below, tree}
 use Rattle.definitions.specs.Number.{join, over}
-use Rattle.definitions.specs.Pages.{Cut, start, rest, page, more}
+use Rattle.definitions.specs.Pages.{Cut, start, after, rest, page, more}
 use Rattle.definitions.specs.Ranking.{row_width, row_key, ranked, cut_of}
 use Rattle.definitions.specs.declared.Selection.{Selection}
 use Rattle.definitions.specs.declared.Position.{Position}
@@ -29,11 +31,10 @@ use Rattle.page_laws.specs.Rows.{rows_of, Wide, length_join, rows_back}
 use Rattle.page_laws.specs.Search.{Search, offer_all, found, search_page, start_good, wide_page}
 use Rattle.ranking_laws.specs.Met.{rule_of}
 use Rattle.ranking_laws.specs.Ranked.{ranked_ascends, ranked_wide}
-use Rattle.ranking_laws.specs.Steps.{unstepped, stepped, HaveSteps, key_unstepped, length_unstepped, key_begun, met_begun, met_begun_wide, tree_begun}
+use Rattle.ranking_laws.specs.Steps.{unstepped, stepped, HaveSteps, begun, key_unstepped, length_unstepped, key_begun, met_begun, met_begun_wide, tree_begun}
 use Rattle.ranking_laws.specs.Steps.{all_whole, rows_have_steps}
 use Rattle.ranking_laws.specs.Reading.{ListedPosition, at_start, after_listed}
-use Rattle.search.specs.Frame.{LawfulList, cut_if, state_of, offers}
-use Rattle.search.specs.Standing.{Begun}
+use Rattle.search.specs.Frame.{LawfulList, Lent, cut_after, state_of, offers}
 use Rattle.search.specs.Walk.{Ready}
 use Rattle.search.specs.declared.frame.Frame.{Frame}
 use Rattle.search.specs.declared.frame.Tally.{Tally}
@@ -47,18 +48,18 @@ use Rattle.page_rows.specs.declared.serve.Served.{Served}
 abbrev root : Pair
 root = record { p = 1; q = 0 }
 
-module _ (l : Selection) (b : Bool) (last s : List ℕ) (cap : ℕ) (lawful : LawfulList l) where
+module _ (l : Selection) (last : Option (Bor (List ℕ))) (s : List ℕ) (cap : ℕ) (lawful : LawfulList l) where
   abbrev cut : Cut
-  cut = cut_if b (row_key (take (row_width l) last))
+  cut = cut_after last
 
   abbrev frame : Frame
-  frame = record { list = l; capacity = cap; after = b }
+  frame = record { list = l; capacity = cap; last = last }
 
   -- Nothing is kept or counted yet.
   abbrev none : Search
   none = record { out = s; n = 0; count = 0 }
 
-  pub ready : row_width l ≤ length last → 1 ≤ cap → cap * row_width l ≤ length s → Ready l.degree 1 0 frame last none
+  pub ready : Lent l last → 1 ≤ cap → cap * row_width l ≤ length s → Ready l.degree 1 0 frame none
   ready lent some room = record {
     searching = record {
       framed = record { lawful = lawful; some = some; lent = lent };
@@ -95,7 +96,7 @@ module _ (l : Selection) (b : Bool) (last s : List ℕ) (cap : ℕ) (lawful : La
       ∙ ap (λ (n : ℕ). n * row_width l) (length-map rows unstepped)
       ∙ sym (length_join (row_width l) rows rows_wide)
 
-  module _ {t : Tally} {o : List ℕ} (e : state_of o t ≡ offers frame last (met_begun l (pairs_below l.degree root)) none) where
+  module _ {t : Tally} {o : List ℕ} (e : state_of o t ≡ offers frame (met_begun l (pairs_below l.degree root)) none) where
     walked : state_of o t ≡ found row_key (row_width l) cap cut s (map unstepped (ranked l))
     walked =
         e
@@ -153,7 +154,7 @@ module _ (l : Selection) (b : Bool) (last s : List ℕ) (cap : ℕ) (lawful : La
         }
 
     -- From the start every row is counted, whatever the room.
-    pub counted : b ≡ false → t.count ≡ length (ranked l)
+    pub counted : last ≡ None → t.count ≡ length (ranked l)
     counted whole = count_is ∙ rw whole (ap length (rest_all row_key start (ranked l) (ranked_ascends l)))
 
 -- As many rows as fit have room; where one fits they are at least one.
@@ -172,9 +173,9 @@ module _ (l : Selection) {at : Position} {s t : List ℕ} {r : Served} where
   filled_start e f = rw e f
 
   module _ (p q : ℕ) (e : at ≡ After p q) where
-    pub filled_after : {last : List ℕ} → Begun l p q last → Filled l (cut_if true (row_key (take (row_width l) last))) s r t → Filled l (cut_of l at) s r t
+    pub filled_after : {last : List ℕ} → last ≡ begun l p q → Filled l (after (row_key last)) s r t → Filled l (cut_of l at) s r t
     unfolding cut_of
-    filled_after k f = rw (e, ← key_begun l p q) (rw k.is at f)
+    filled_after k f = rw (e, ← key_begun l p q) (rw k at f)
 
 -- A pair of the list is well-formed and accepted.
 pub listed_pair : (l : Selection) {at : Position} {p q : ℕ} → ListedPosition (rule_of l) at → at ≡ After p q

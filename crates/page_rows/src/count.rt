@@ -14,13 +14,12 @@ pub fn count_rows(list: Selection) -> usize
     ensures { result ≡ length (ranked list) }
 {
     let mut row: [u32; LONGEST_ROW] = [0; LONGEST_ROW];
-    let last: [u32; LONGEST_ROW] = [0; LONGEST_ROW];
     let frame = Frame {
         list: list,
         capacity: 1,
-        after: false,
+        last: None,
     };
     let none = Tally { kept: 0, count: 0 };
-    let found = walk::visit(list.degree, 1, 0, &mut row, none, frame, &last);
+    let found = walk::visit(list.degree, 1, 0, &mut row, none, frame);
     found.count
 }

@@ -1,9 +1,9 @@
 // The rows of a lawful list, from the start or after a pair of the list.
-ghost use Rattle.std.specs.Prelude.{◌≡◌, ◌≤◌, length, take};
-ghost use Rattle.definitions.specs.Ranking.{row_width, row_key, cut_of};
+ghost use Rattle.std.specs.Prelude.{◌≤◌, length};
+ghost use Rattle.definitions.specs.Ranking.{row_width, cut_of};
 ghost use Rattle.ranking_laws.specs.Met.{rule_of};
 ghost use Rattle.ranking_laws.specs.Reading.{ListedPosition};
-ghost use Rattle.search.specs.Frame.{LawfulList, cut_if};
+ghost use Rattle.search.specs.Frame.{LawfulList, Lent, cut_after};
 ghost use Rattle.page_rows.specs.Serve.{Filled};
 
 use definitions::{Position, Selection};
@@ -21,19 +21,19 @@ pub struct Served {
 }
 
 // Walks down the tree from its root, and then writes the steps of the rows kept. The slice must hold a row; it is the only room that the search needs.
-fn search_all(list: Selection, after: bool, last: &[u32], out: &mut [u32]) -> Served
-    requires { LawfulList list × (row_width list ≤ length last.now) × (row_width list ≤ length out.old) }
-    ensures { Filled list (cut_if after (row_key (take (row_width list) last.now))) out.old result out.new }
+fn search_all(list: Selection, last: Option<&[u32]>, out: &mut [u32]) -> Served
+    requires { LawfulList list × Lent list last × (row_width list ≤ length out.old) }
+    ensures { Filled list (cut_after last.entry) out.old result out.new }
 {
     let width = width_of(list);
     let capacity = out.len() / width;
     let frame = Frame {
         list: list,
         capacity: capacity,
-        after: after,
+        last: last,
     };
     let none = Tally { kept: 0, count: 0 };
-    let found = walk::visit(list.degree, 1, 0, out, none, frame, last);
+    let found = walk::visit(list.degree, 1, 0, out, none, frame);
     write_steps(list.degree, width, found.kept, out);
     Served {
         rows: found.kept,
@@ -46,12 +46,12 @@ pub fn fill(list: Selection, position: Position, out: &mut [u32]) -> Served
     requires { LawfulList list × ListedPosition (rule_of list) position × (row_width list ≤ length out.old) }
     ensures { Filled list (cut_of list position) out.old result out.new }
 {
-    let mut last: [u32; LONGEST_ROW] = [0; LONGEST_ROW];
     match position {
-        Position::Start => search_all(list, false, &last, out),
+        Position::Start => search_all(list, None, out),
         Position::After(p, q) => {
+            let mut last: [u32; LONGEST_ROW] = [0; LONGEST_ROW];
             rank::write_key(list, p, q, &mut last);
-            search_all(list, true, &last, out)
+            search_all(list, Some(&last[..width_of(list)]), out)
         }
     }
 }

@@ -6,7 +6,7 @@ ghost use Rattle.std.specs.Prelude.{◌≡◌};
 ghost use Rattle.definitions.specs.Answers.{judgement_values, quotient_test_values};
 ghost use Rattle.pair_results.specs.Results.{judgement_result, quotients_result};
 
-use definitions::{Judgement, QuotientTest};
+use definitions::{QuotientDegrees, Refusal};
 
 // A pair's step.
 #[repr(C)]
@@ -17,20 +17,22 @@ pub struct FenyurkaJudgement {
     pub step: u32,
 }
 
-pub fn judgement(answer: Judgement) -> FenyurkaJudgement
-    ensures { result ≡ judgement_result (judgement_values answer) }
-{
-    match answer {
-        Judgement::Accepted(step) => FenyurkaJudgement {
-            refusal: 0,
-            quotient_degree: 0,
-            step,
-        },
-        Judgement::Rejected(refusal) => FenyurkaJudgement {
-            refusal: answers::refusal_number(refusal),
-            quotient_degree: answers::refusal_degree(refusal),
-            step: 0,
-        },
+impl From<Result<u32, Refusal>> for FenyurkaJudgement {
+    ghost from_gives = { λ answer r. r ≡ judgement_result (judgement_values answer) };
+
+    fn from(answer: Result<u32, Refusal>) -> FenyurkaJudgement {
+        match answer {
+            Ok(step) => FenyurkaJudgement {
+                refusal: 0,
+                quotient_degree: 0,
+                step,
+            },
+            Err(refusal) => FenyurkaJudgement {
+                refusal: answers::refusal_number(refusal),
+                quotient_degree: answers::refusal_degree(refusal),
+                step: 0,
+            },
+        }
     }
 }
 
@@ -43,19 +45,21 @@ pub struct FenyurkaQuotients {
     pub common_degree: u32,
 }
 
-pub fn quotients(answer: QuotientTest) -> FenyurkaQuotients
-    ensures { result ≡ quotients_result (quotient_test_values answer) }
-{
-    match answer {
-        QuotientTest::Degrees(quotient_degree, common_degree) => FenyurkaQuotients {
-            refusal: 0,
-            quotient_degree,
-            common_degree,
-        },
-        QuotientTest::Untested(refusal) => FenyurkaQuotients {
-            refusal: answers::refusal_number(refusal),
-            quotient_degree: 0,
-            common_degree: 0,
-        },
+impl From<Result<QuotientDegrees, Refusal>> for FenyurkaQuotients {
+    ghost from_gives = { λ answer r. r ≡ quotients_result (quotient_test_values answer) };
+
+    fn from(answer: Result<QuotientDegrees, Refusal>) -> FenyurkaQuotients {
+        match answer {
+            Ok(degrees) => FenyurkaQuotients {
+                refusal: 0,
+                quotient_degree: degrees.quotient,
+                common_degree: degrees.common,
+            },
+            Err(refusal) => FenyurkaQuotients {
+                refusal: answers::refusal_number(refusal),
+                quotient_degree: 0,
+                common_degree: 0,
+            },
+        }
     }
 }

@@ -68,9 +68,6 @@ module _ {a b rest : ℕ} (pos : 0 < b) (h : Rest a b rest) where
       rest_degree : count_leading_zeros 32 b - count_leading_zeros 32 rest + degree b ≡ degree rest
       rest_degree = omega (arith, leading_degree b pos fits, leading_degree rest rest_some h.word)
 
-      pub shift_fits : count_leading_zeros 32 b - count_leading_zeros 32 rest < 32
-      shift_fits = omega (arith, leading_degree b pos fits)
-
       pub rest_less : bit_xor rest (b * 2 ^ (count_leading_zeros 32 b - count_leading_zeros 32 rest) % 2 ^ 32) < rest
       rest_less = term_less rest_some _ rest_degree
 
@@ -96,9 +93,6 @@ pub record Divided (p q a b d k : ℕ) : Type 0 where
   pub degree_a : d ≡ degree a
   pub largest : max k (quotient_degree a b) ≡ quotient_degree p q
   pub common : common_degree a b ≡ common_degree p q
-
-pub divided_start : {p q d : ℕ} → 0 < q → q ≤ p → d ≡ degree p → Divided p q p q d 0
-divided_start pos below e = record { some = omega arith; below = below; degree_a = e; largest = omega arith; common = refl }
 
 module _ {p q a b d k : ℕ} (h : Divided p q a b d k) where
   pub divided_end : b ≡ 0 → (k ≡ quotient_degree p q) × (d ≡ common_degree p q)

@@ -5,14 +5,8 @@ ghost use Rattle.std.specs.Prelude.{◌≡◌, ◌-◌, ◌≤◌, ◌<◌};
 ghost use Rattle.definitions.specs.Polynomial.{degree, rem};
 ghost use Rattle.definitions.specs.Generator.{quotient_degree, common_degree};
 
+use definitions::QuotientDegrees;
 use polynomial::digits;
-
-// K, the largest degree among the partial quotients of q/p, and the degree of the common factor of p and q.
-#[derive(Clone, Copy)]
-pub struct Degrees {
-    pub quotient: u32,
-    pub common: u32,
-}
 
 // a modulo b, where the quotient has the degree `drop`: b times each of its terms, the highest first, is taken from a.
 fn remainder(a: u32, b: u32, drop: u32) -> u32
@@ -30,7 +24,7 @@ fn remainder(a: u32, b: u32, drop: u32) -> u32
 }
 
 // By Euclid's algorithm. A quotient's degree is the difference of the degrees of the two that are divided; what no longer divides is the common factor.
-pub fn quotient_degrees(p: u32, q: u32) -> Degrees
+pub fn quotient_degrees(p: u32, q: u32) -> QuotientDegrees
     requires q_nonzero { 0 < q }
     requires q_le_p { q ≤ p }
     ensures { (result.quotient ≡ quotient_degree p q) × (result.common ≡ common_degree p q) }
@@ -42,15 +36,13 @@ pub fn quotient_degrees(p: u32, q: u32) -> Degrees
     while b != 0 {
         let degree_of_b = digits::degree_of(b);
         let degree = degree_of_a - degree_of_b;
-        if largest < degree {
-            largest = degree;
-        }
+        largest = largest.max(degree);
         let rest = remainder(a, b, degree);
         a = b;
         b = rest;
         degree_of_a = degree_of_b;
     }
-    Degrees {
+    QuotientDegrees {
         quotient: largest,
         common: degree_of_a,
     }

@@ -1,5 +1,6 @@
 -- A position is refused as its pair is: the verdict tells which of its situations decides, or that none applies; then it is the start or after a
 -- pair of the list. Assumes nothing.
+use Rattle.std.specs.Prelude.{Result, Ok, Err}
 use mathlib.Core.Path.{◌≡◌, refl, sym, ap, ◌∙◌}
 use Prim.Native.Nat.{ℕ}
 use native.Mathlib.Omega.{arith}
@@ -15,32 +16,30 @@ use Rattle.ranking_laws.specs.Met.{rule_of}
 use Rattle.ranking_laws.specs.Reading.{ListedPosition, at_start, after_listed}
 use Rattle.verdicts.specs.Verdicts.{pair_verdict}
 use Rattle.verdicts.specs.Refusals.{passed_well_formed, passed_accepted}
-use Rattle.verdicts.specs.declared.Verdict.{Verdict}
-use Rattle.verdicts.specs.declared.Verdict.TheVariants.{Refused, Passed}
 use Rattle.ranking.specs.Positions.{position_verdict}
 
 module _ (m floor : ℕ) {at : Position} where
-  pub start_passes : at ≡ Start → Passed ≡ position_verdict m floor at
+  pub start_passes : at ≡ Start → Ok tt ≡ position_verdict m floor at
   unfolding position_verdict position_situations
-  start_passes e = rw e (sym (unless_given Refused Passed at_end))
+  start_passes e = rw e (sym (unless_given Err (Ok tt) at_end))
 
-  pub pair_decides : {p q : ℕ} {v : Verdict} → at ≡ After p q → v ≡ pair_verdict m floor p q → v ≡ position_verdict m floor at
+  pub pair_decides : {p q : ℕ} {v : Result (Unit {0}) Refusal} → at ≡ After p q → v ≡ pair_verdict m floor p q → v ≡ position_verdict m floor at
   unfolding position_verdict position_situations pair_verdict
   pair_decides e h = rw e h
 
-never : (r : Refusal) → Refused r ≡ Passed → ⊥
+never : (r : Refusal) → ◌≡◌ {A = Result (Unit {0}) Refusal} (Err r) (Ok tt) → ⊥
 never r e = let z : ◌≡◌ {A = ℕ} 0 1 = cc in omega arith
 
 module _ (m floor : ℕ) (at : Position) where
-  pub position_decides : {r : Refusal} → position_verdict m floor at ≡ Refused r → Decides r (position_situations m floor at)
+  pub position_decides : {r : Refusal} → position_verdict m floor at ≡ Err r → Decides r (position_situations m floor at)
   unfolding position_verdict
-  position_decides {r} = (refused_exactly Refused Passed (position_situations m floor at) r (λ e. never r (sym e)) (λ k e. cc)).0
+  position_decides {r} = (refused_exactly Err (Ok tt) (position_situations m floor at) r (λ e. never r (sym e)) (λ k e. cc)).0
 
-  pub position_passes : position_verdict m floor at ≡ Passed → NoneApplies (position_situations m floor at)
+  pub position_passes : position_verdict m floor at ≡ Ok tt → NoneApplies (position_situations m floor at)
   unfolding position_verdict
-  position_passes = (given_exactly Refused Passed (position_situations m floor at) never).0
+  position_passes = (given_exactly Err (Ok tt) (position_situations m floor at) never).0
 
-pub position_listed : (l : Selection) (at : Position) → position_verdict l.degree l.floor at ≡ Passed → ListedPosition (rule_of l) at
+pub position_listed : (l : Selection) (at : Position) → position_verdict l.degree l.floor at ≡ Ok tt → ListedPosition (rule_of l) at
 unfolding position_verdict position_situations pair_verdict
 position_listed l Start e = at_start
 position_listed l (After p q) e =

@@ -4,10 +4,9 @@
 ghost use Rattle.std.specs.Prelude.{◌≡◌};
 ghost use Rattle.definitions.specs.Calls.{page_request, page_answer, page_slice};
 
-use definitions::{PageAnswer, PageRequest, Position, Refusal, Selection};
+use definitions::{Page, PageRequest, Position, Refusal, Selection};
 use page_rows::serve;
 use row_places::width_of;
-use verdicts::Verdict;
 
 pub mod position; // whether a position can be read from
 
@@ -26,7 +25,7 @@ pub fn request(list: Selection, position: Position) -> PageRequest
 
 // The rows of the ranked list above the position, as many as fit `out`, from its front: how many, and whether a further row exists; or the
 // documents' refusal 1, 2 or 12, 3 to 6 or 11 for a position after a pair, or 7. Every number behind the rows stays, and a refusal writes nothing.
-pub fn page(request: PageRequest, out: &mut [u32]) -> PageAnswer
+pub fn page(request: PageRequest, out: &mut [u32]) -> Result<Page, Refusal>
     ensures answer { result ≡ page_answer request out.old }
     ensures slice { out.new ≡ page_slice request out.old }
 {
@@ -38,22 +37,21 @@ pub fn page(request: PageRequest, out: &mut [u32]) -> PageAnswer
     };
     let position = request.position;
     if !limits::is_lawful_degree(list.degree) {
-        return PageAnswer::NoPage(Refusal::WrongDegree);
+        return Err(Refusal::WrongDegree);
     }
     if !limits::is_lawful_top(list.top) {
-        return PageAnswer::NoPage(Refusal::WrongDimension);
+        return Err(Refusal::WrongDimension);
     }
     if !limits::is_lawful_floor(list.floor) {
-        return PageAnswer::NoPage(Refusal::WrongFloor);
+        return Err(Refusal::WrongFloor);
     }
-    match position::check_position(list.degree, list.floor, position) {
-        Verdict::Refused(refusal) => PageAnswer::NoPage(refusal),
-        Verdict::Passed => {
-            if out.len() < width_of(list) {
-                return PageAnswer::NoPage(Refusal::ShortSlice);
-            }
-            let filled = serve::fill(list, position, out);
-            PageAnswer::Page(filled.rows, filled.further)
-        }
+    position::check_position(list.degree, list.floor, position)?;
+    if out.len() < width_of(list) {
+        return Err(Refusal::ShortSlice);
     }
+    let filled = serve::fill(list, position, out);
+    Ok(Page {
+        rows: filled.rows,
+        further: filled.further,
+    })
 }

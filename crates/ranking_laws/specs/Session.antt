@@ -1,6 +1,6 @@
 -- The pages of a selected list are those of its rule: at a position that a walk has come to, with a slice that holds a row, no situation applies;
 -- the rows that are read out of the slice are the rule's page; and so the walk goes on, or has the ranked list. Assumes nothing.
-use Rattle.std.specs.Prelude.{◌≡◌, refl, true, false, List, [], ◌∷◌, ◌++◌, ℕ, ◌≤◌, length}
+use Rattle.std.specs.Prelude.{◌≡◌, refl, true, false, List, [], ◌∷◌, ◌++◌, ℕ, ◌≤◌, length, Ok, Err}
 use Rattle.std.proofs.Common.{sym, ap, ◌∙◌, le-div_iff_mul-le, arith, le-ltb}
 use Rattle.std.proofs.Math.Bool.{not}
 use Rattle.definitions.specs.Number.{join}
@@ -11,7 +11,6 @@ use Rattle.definitions.specs.declared.Selection.{Selection}
 use Rattle.definitions.specs.declared.Position.{Position}
 use Rattle.definitions.specs.declared.Position.TheVariants.{Start, After}
 use Rattle.definitions.specs.declared.PageRequest.{PageRequest}
-use Rattle.definitions.specs.declared.PageAnswer.TheVariants.{Page, NoPage}
 use Rattle.answer_laws.specs.Unless.{NoneApplies, passes, at_end, none_append, unless_given}
 use Rattle.answer_laws.specs.Lent.{page_given}
 use Rattle.number_laws.specs.Bounds.{lawful_top_is}
@@ -55,10 +54,10 @@ module _ (l : Selection) (degree_is_lawful : lawful_degree l.degree ≡ true) (t
       (passes (ap not ((reaches_floor_is l.degree l.floor p q).1 a.reaches)) at_end))))
 
   not_refused : {at : Position} → ListedPosition (rule_of l) at → (s : List ℕ) → row_width l ≤ length s
-      → page_answer (page_request l at) s ≡ Page (length (page_rows (page_request l at) s)) (further_row (page_request l at) s)
+      → page_answer (page_request l at) s ≡ Ok (record { rows = length (page_rows (page_request l at) s); further = further_row (page_request l at) s })
   unfolding page_answer paging
   not_refused h s room =
-      unless_given NoPage _
+      unless_given Err _
       (passes (ap not degree_is_lawful) (passes (ap not top_is_lawful) (passes (ap not floor_is_lawful)
       (none_append (position_passes h) (passes (le-ltb (length s) (row_width l) room) at_end)))))
 
@@ -69,7 +68,7 @@ module _ (l : Selection) (degree_is_lawful : lawful_degree l.degree ≡ true) (t
     asked = page_request l at
 
     -- The page is given, and
-    pub page_answered : page_answer (page_request l at) s ≡ Page (length (page_rows (page_request l at) s)) (further_row (page_request l at) s)
+    pub page_answered : page_answer (page_request l at) s ≡ Ok (record { rows = length (page_rows (page_request l at) s); further = further_row (page_request l at) s })
     page_answered = not_refused r.listed s room
 
     received : received_rows l at s ≡ page_by (rule_of l) at (capacity asked s)

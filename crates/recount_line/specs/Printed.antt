@@ -1,33 +1,30 @@
 -- What `recount` prints for a line: by the numbers that are read over an array of four zeros, and by what the engines answer; no text is longer than
 -- `recount_room`. Assumes nothing.
-use Rattle.std.specs.Prelude.{◌≡◌, ℕ, ◌*◌, ◌^◌, ◌≤◌, ◌<◌, get_or, take, replicate}
+use Rattle.std.specs.Prelude.{◌≡◌, ℕ, ◌*◌, ◌^◌, ◌≤◌, ◌<◌, get_or, take, replicate, Result, Ok, Err}
 use Rattle.std.proofs.Math.Path.{refl}
-use Rattle.std.proofs.Common.{sym, ap, ◌∙◌}
+use Rattle.std.proofs.Common.{sym, ap, ap₂, ◌∙◌}
 use mathlib.Core.List.{List, [], ◌∷◌}
 use native.Mathlib.Omega.{arith}
 use Rattle.std.proofs.Math.ListN.{length}
 use Rattle.std.proofs.lemmas.Bool.{lt-leb}
 use Rattle.definitions.specs.Number.{numbers, over}
-use Rattle.definitions.specs.Answers.{refusal_number, uniformity_values}
+use Rattle.definitions.specs.Answers.{refusal_number}
 use Rattle.definitions.specs.Net.{t_value}
 use Rattle.definitions.specs.Calls.{counting, counted, uniformity}
 use Rattle.definitions.specs.Listing.{newline, letters, line_of, line_numbers, numbers_within, refused_text, unreadable}
 use Rattle.definitions.specs.Recount.{both_text, pair_text, recount_text, recount}
 use Rattle.definitions.proofs.Honest.{t_value_at_most}
 use Rattle.definitions.specs.declared.Refusal.{Refusal}
-use Rattle.definitions.specs.declared.Uniformity.{Uniformity}
-use Rattle.definitions.specs.declared.Uniformity.TheVariants.{Value, Undefined}
 use Rattle.number_laws.specs.Bounds.{counted_degree_is}
 use Rattle.answer_laws.specs.Unless.{Decides, here, later, decides_none, NoneApplies, Outcome, is_refused, is_given, outcome}
-use Rattle.answer_laws.specs.Unless.{unless_refused, unless_given}
+use Rattle.answer_laws.specs.Given.{same_value}
+use Rattle.answer_laws.specs.Unless.{unless_refused, unless_given, refused_exactly}
 use Rattle.answer_laws.specs.Measured.{given_counted, counted_uniformity}
 use Rattle.line.specs.LongLine.{number_bytes, line_cut}
 use Rattle.decimal_text.specs.Decimal.{ten_digits}
 use Rattle.text.specs.Lines.{long_length}
 use Rattle.list_lines.specs.Texts.{refused_short}
 use Rattle.engines_line.specs.BothLine.{both_line}
-use Rattle.figure_results.specs.Results.{t_value_result}
-use Rattle.figure_results.specs.declared.FenyurkaTValue.{FenyurkaTValue}
 
 -- ---- by the numbers of the line
 
@@ -83,9 +80,8 @@ module _ (s : List ℕ) {n : ℕ} (count : n ≡ length (numbers_within asked s)
 abbrev said : Refusal → List ℕ
 said r = refused_text (refusal_number r)
 
--- What an engine answers, as a struct.
-abbrev pub result : Uniformity → FenyurkaTValue
-result u = t_value_result (uniformity_values u)
+never : {r : Refusal} {n : ℕ} → ◌≡◌ {A = Result ℕ Refusal} (Err r) (Ok n) → ⊥
+never e = let z : ◌≡◌ {A = ℕ} 0 1 = cc in omega arith
 
 module _ (m p q s : ℕ) where
   abbrev t : ℕ
@@ -100,33 +96,37 @@ module _ (m p q s : ℕ) where
   refusal_number_lem (later a (later b (later c d))) = absurd (decides_none d)
 
   -- Where no situation applies both engines give the t-value.
-  refused_count : {r : Refusal} → Decides r (counting m p q s) → counted m p q s ≡ Undefined r
+  refused_count : {r : Refusal} → Decides r (counting m p q s) → counted m p q s ≡ Err r
   unfolding counted
-  refused_count d = unless_refused Undefined (Value t) d
+  refused_count d = unless_refused Err (Ok t) d
 
-  given_count : NoneApplies (counting m p q s) → counted m p q s ≡ Value t
+  given_count : NoneApplies (counting m p q s) → counted m p q s ≡ Ok t
   unfolding counted
-  given_count n = unless_given Undefined (Value t) n
+  given_count n = unless_given Err (Ok t) n
 
-  given_quick : NoneApplies (counting m p q s) → uniformity m p q s ≡ Value t
+  given_quick : NoneApplies (counting m p q s) → uniformity m p q s ≡ Ok t
   given_quick n = sym (counted_uniformity m p q s (given_counted m p q s n)) ∙ given_count n
 
-  module _ {count : FenyurkaTValue} (counts : count ≡ result (counted m p q s)) where
-    pub pair_refused : (count.refusal ≡ 0 → ⊥) → pair_text m p q s ≡ refused_text count.refusal
-    unfolding pair_text
-    pair_refused some = go (outcome (counting m p q s))
-      where
-        go : Outcome (counting m p q s) → pair_text m p q s ≡ refused_text count.refusal
-        go (is_refused d) = rw (counts, refused_count d) (unless_refused said (both_text t t) d)
-        go (is_given n) = absurd (some (rw (counts, given_count n)))
+  pub pair_refused : {r : Refusal} → counted m p q s ≡ Err r → pair_text m p q s ≡ refused_text (refusal_number r)
+  unfolding pair_text counted
+  pair_refused {r} e = unless_refused said (both_text t t) ((refused_exactly Err (Ok t) (counting m p q s) r (λ k. never (sym k)) (λ k i. cc)).0 e)
 
-    pub pair_both : {quick : FenyurkaTValue} → quick ≡ result (uniformity m p q s) → count.refusal ≡ 0 → pair_text m p q s ≡ both_text quick.t count.t
-    unfolding pair_text
-    pair_both {quick} quicks none = go (outcome (counting m p q s))
-      where
-        go : Outcome (counting m p q s) → pair_text m p q s ≡ both_text quick.t count.t
-        go (is_refused d) = absurd (omega (arith, (refusal_number_lem d).0, rw (counts, refused_count d) at none))
-        go (is_given n) = rw (counts, quicks, given_count n, given_quick n) (unless_given said (both_text t t) n)
+  -- What the counter gives the quick engine gives too.
+  pub quick_given : {count : ℕ} → counted m p q s ≡ Ok count → uniformity m p q s ≡ Ok count
+  quick_given {count} e = go (outcome (counting m p q s))
+    where
+      go : Outcome (counting m p q s) → uniformity m p q s ≡ Ok count
+      go (is_refused d) = absurd (never (sym (refused_count d) ∙ e))
+      go (is_given n) = given_quick n ∙ sym (given_count n) ∙ e
+
+  pub pair_both : {count quick : ℕ} → counted m p q s ≡ Ok count → uniformity m p q s ≡ Ok quick → pair_text m p q s ≡ both_text quick count
+  unfolding pair_text
+  pair_both {count} {quick} counts quicks = go (outcome (counting m p q s))
+    where
+      go : Outcome (counting m p q s) → pair_text m p q s ≡ both_text quick count
+      go (is_refused d) = absurd (never (sym (refused_count d) ∙ counts))
+      go (is_given n) =
+          unless_given said (both_text t t) n ∙ ap₂ both_text (same_value (sym (given_quick n) ∙ quicks)) (same_value (sym (given_count n) ∙ counts))
 
 -- ---- the room
 

@@ -32,10 +32,11 @@ fn put_pair(out: &mut [u8], at: usize, degree: u32, p: u32, q: u32, dimension: u
     ensures value { result ≡ behind at (pair_text degree p q dimension) out.old }
     ensures out_after { out.new ≡ placed at (pair_text degree p q dimension) out.old }
 {
-    let count = figure_results::t_value(counter::count_t_value(degree, p, q, dimension));
-    if count.refusal != 0 {
-        return list_lines::put_refused(out, at, count.refusal);
+    match counter::count_t_value(degree, p, q, dimension) {
+        Ok(count) => {
+            let quick = net::t_value(degree, p, q, dimension).unwrap();
+            engines_line::put_both(out, at, quick, count)
+        }
+        Err(refusal) => list_lines::put_refused(out, at, answers::refusal_number(refusal)),
     }
-    let quick = figure_results::t_value(net::t_value(degree, p, q, dimension));
-    engines_line::put_both(out, at, quick.t, count.t)
 }

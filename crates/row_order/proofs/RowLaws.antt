@@ -1,84 +1,52 @@
--- Two t-values compared, as one turn of the loop over them does. Rows compare by their t-values, and by their pairs where these do not decide.
--- Assumes nothing.
-use mathlib.Core.Path.{◌≡◌, refl, sym, ◌∙◌}
-use mathlib.Core.Bool.{false, not, ◌||◌, ◌&&◌}
-use mathlib.Core.List.{List, [], ◌∷◌, ◌++◌}
-use Prim.Native.Nat.{ℕ, suc, ◌+◌, ◌-◌, ◌≤◌, ◌<◌}
-use native.Mathlib.Numerals.{add-one}
-use native.Mathlib.Omega.{arith}
-use lib.Dec.{ltb}
-use lib.ListN.{length, take, drop, get_or, length-drop, drop_of_length-le}
-use lib.Seq.{take-take, drop-cons, get_or-take, get_or-drop, length-take-le}
+-- `<` of slices is the order of keys, and `<` of pairs of slices that of the joined keys, where the first ones are equally long. Assumes nothing.
+use Rattle.std.proofs.Common.{◌≡◌, refl, sym, ap, ap₂, ◌∙◌, ℕ, ◌-◌, Bool, Option, Some, List, [], ◌∷◌, ◌++◌, length, take, drop, arith, length-drop}
+use Rattle.std.proofs.Math.Seq.{take_all}
+use Rattle.std.specs.declared.cmp.Ordering.{Ordering}
+use Rattle.std.specs.declared.cmp.Ordering.TheVariants.{Less, Equal, Greater}
+use Rattle.std.specs.Ordering.{nat_cmp, is_lt, is_some_and, partial_ordering_then}
+use Rattle.std.specs.Cmp.Lexicographic.{slice_partial_cmp}
+use Rattle.std.proofs.lemmas.Cmp.{same_from_slice_cmp_tested}
+use Rattle.std.proofs.lemmas.Bool.Decides.{nat_tests}
 use Rattle.definitions.specs.Pages.{before}
 use Rattle.definitions.specs.Ranking.{ranks_from, row_key}
-use Rattle.page_laws.specs.Key.{before_same, before_differ, before_single, before_append}
-use Rattle.row_order.specs.Ranks.{ranks_of}
 
--- ---- t-values compared from place k on
+abbrev numbers_cmp : List ℕ → List ℕ → Option Ordering
+numbers_cmp = slice_partial_cmp (λ x y. Some (nat_cmp x y))
 
--- They compare as what is left of them there.
-abbrev pub Left : ℕ → ℕ → List ℕ → ℕ → List ℕ → ℕ → Type 0
-Left s i a j b k = before (ranks_of s (drop i a)) (ranks_of s (drop j b)) ≡ before (drop k (take s (drop i a))) (drop k (take s (drop j b)))
+lt_before : (a b : List ℕ) (r : Bool) → r ≡ is_some_and is_lt (numbers_cmp a b) → r ≡ before a b
+unfolding before
+lt_before = same_from_slice_cmp_tested nat_cmp is_lt before refl (λ _ _. refl) (λ _ _. refl) (λ x y xs ys o h. grind (arith, nat_tests))
 
-module _ (s i : ℕ) (a : List ℕ) (h : i + s ≤ length a) where
-  front_length : length (take s (drop i a)) ≡ s
-  front_length = length-take-le s (drop i a) (omega (arith, length-drop i a))
+-- One comparison behind another.
+then_then : (o : Ordering) (p q : Option Ordering)
+    → partial_ordering_then (partial_ordering_then (Some o) p) q ≡ partial_ordering_then (Some o) (partial_ordering_then p q)
+then_then Less p q = refl
+then_then Equal p q = refl
+then_then Greater p q = refl
 
-  front_more : (k : ℕ) → k < s → drop k (take s (drop i a)) ≡ get_or a (i + k) 0 ∷ drop (k + 1) (take s (drop i a))
-  front_more k l = rw (drop-cons (take s (drop i a)) k 0 (omega (arith, front_length)), get_or-take s (drop i a) k 0 l, get_or-drop, add-one)
+then_append : (a b x y : List ℕ) → length a ≡ length b → partial_ordering_then (numbers_cmp a b) (numbers_cmp x y) ≡ numbers_cmp (a ++ x) (b ++ y)
+then_append [] [] x y e = refl
+then_append [] (n ∷ b) x y e = absurd (omega arith)
+then_append (m ∷ a) [] x y e = absurd (omega arith)
+then_append (m ∷ a) (n ∷ b) x y e =
+    then_then (nat_cmp m n) (numbers_cmp a b) (numbers_cmp x y)
+    ∙ ap (partial_ordering_then (Some (nat_cmp m n))) (then_append a b x y (omega arith))
 
-  front_end : (k : ℕ) → s ≤ k → drop k (take s (drop i a)) ≡ []
-  front_end k e = drop_of_length-le (take s (drop i a)) {i = k} (omega (arith, front_length))
+-- The numbers of a row from t(3) on, as a slice.
+abbrev ranks : List ℕ → List ℕ
+ranks r = take (length r - 3) (drop 3 r)
 
-module _ (s i j : ℕ) (a b : List ℕ) where
-  pub left_all : Left s i a j b ranks_from
-  unfolding ranks_of
-  left_all = refl
+ranks_are : (r : List ℕ) → ranks r ≡ drop ranks_from r
+ranks_are r = take_all (length r - 3) (drop 3 r) (omega (arith, length-drop 3 r))
 
-  module _ (k : ℕ) (pre : (ranks_from ≤ s) × (i + s ≤ length a) × (j + s ≤ length b)) (inv : Left s i a j b k) where
-    left_first : k < s → before (ranks_of s (drop i a)) (ranks_of s (drop j b))
-        ≡ before (get_or a (i + k) 0 ∷ drop (k + 1) (take s (drop i a))) (get_or b (j + k) 0 ∷ drop (k + 1) (take s (drop j b)))
-    left_first l = rw (← front_more s i a pre.1 k l, ← front_more s j b pre.2 k l) inv
+module _ (a b : List ℕ) {r : Bool} where
+  pub ranks_lt : r ≡ is_some_and is_lt (numbers_cmp (ranks a) (ranks b)) → r ≡ before (drop ranks_from a) (drop ranks_from b)
+  ranks_lt h = lt_before (ranks a) (ranks b) r h ∙ ap₂ before (ranks_are a) (ranks_are b)
 
-    pub left_differ : k < s → (get_or a (i + k) 0 ≡ get_or b (j + k) 0 → ⊥)
-        → ltb (get_or a (i + k) 0) (get_or b (j + k) 0) ≡ before (ranks_of s (drop i a)) (ranks_of s (drop j b))
-    left_differ l n = sym (left_first l ∙ before_differ _ _ _ _ n)
-
-    pub left_more : k < s → get_or a (i + k) 0 ≡ get_or b (j + k) 0 → Left s i a j b (k + 1)
-    left_more l e = left_first l ∙ before_same _ _ _ _ e
-
-    pub left_none : s ≤ k → false ≡ before (ranks_of s (drop i a)) (ranks_of s (drop j b))
-    left_none l = sym (inv ∙ rw (front_end s i a pre.1 k l, front_end s j b pre.2 k l) (unfold before in refl))
-
--- ---- pairs
-
-pair_at : (i : ℕ) (a : List ℕ) → i + 2 ≤ length a → take 2 (drop i a) ≡ get_or a i 0 ∷ get_or a (i + 1) 0 ∷ []
-pair_at i a h = rw (add-one, drop-cons a i 0 (omega arith), drop-cons a (suc i) 0 (omega arith))
-
-module _ (i j : ℕ) (a b : List ℕ) (pre : (i + 2 ≤ length a) × (j + 2 ≤ length b)) where
-  pub pair_differ : (get_or a i 0 ≡ get_or b j 0 → ⊥) → ltb (get_or a i 0) (get_or b j 0) ≡ before (take 2 (drop i a)) (take 2 (drop j b))
-  pair_differ n = rw (pair_at i a pre.0, pair_at j b pre.1) (sym (before_differ _ _ _ _ n))
-
-  pub pair_same : get_or a i 0 ≡ get_or b j 0 → ltb (get_or a (i + 1) 0) (get_or b (j + 1) 0) ≡ before (take 2 (drop i a)) (take 2 (drop j b))
-  pair_same e = rw (pair_at i a pre.0, pair_at j b pre.1) (sym (before_same _ _ _ _ e ∙ before_single _ _))
-
--- ---- rows
-
--- Rows compare by their t-values, and by their pairs where these do not decide.
-abbrev pub Compares : ℕ → ℕ → List ℕ → ℕ → List ℕ → Type 0
-Compares w i a j b =
-    before (row_key (take w (drop i a))) (row_key (take w (drop j b)))
-    ≡ (before (ranks_of w (drop i a)) (ranks_of w (drop j b))
-    || (not (before (ranks_of w (drop j b)) (ranks_of w (drop i a))) && before (take 2 (drop i a)) (take 2 (drop j b))))
-
-module _ (w : ℕ) (wide : ranks_from < w) where
-  key_parts : (i : ℕ) (a : List ℕ) → row_key (take w (drop i a)) ≡ ranks_of w (drop i a) ++ take 2 (drop i a)
-  unfolding row_key ranks_of
-  key_parts i a = rw (take-take 2 w (drop i a) (omega arith))
-
-  ranks_length : (i : ℕ) (a : List ℕ) → i + w ≤ length a → length (ranks_of w (drop i a)) ≡ w - ranks_from
-  unfolding ranks_of
-  ranks_length i a h = rw (length-drop, front_length w i a h)
-
-  pub rows_compare : (i j : ℕ) (a b : List ℕ) → i + w ≤ length a → j + w ≤ length b → Compares w i a j b
-  rows_compare i j a b h l = rw (key_parts i a, key_parts j b) (before_append _ _ _ _ (ranks_length i a h ∙ sym (ranks_length j b l)))
+  pub rows_lt : length a ≡ length b → r ≡ is_some_and is_lt (partial_ordering_then (numbers_cmp (ranks a) (ranks b)) (numbers_cmp (take 2 a) (take 2 b)))
+      → r ≡ before (row_key a) (row_key b)
+  unfolding row_key
+  rows_lt e h =
+      let long : length (ranks a) ≡ length (ranks b) = rw (ranks_are a, ranks_are b, length-drop ranks_from a, length-drop ranks_from b, e) in
+      lt_before (ranks a ++ take 2 a) (ranks b ++ take 2 b) r (h ∙ ap (is_some_and is_lt) (then_append (ranks a) (ranks b) (take 2 a) (take 2 b) long))
+      ∙ ap₂ (λ (x y : List ℕ). before (x ++ take 2 a) (y ++ take 2 b)) (ranks_are a) (ranks_are b)

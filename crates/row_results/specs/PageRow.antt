@@ -1,7 +1,7 @@
 -- A row of a body for C has its numbers as a page has them: p, q, σ, t(3) .. t(T), then Δ where the rows have it, and 0 behind them.
 -- From t(3) on, one number at a time: up to t(T) the next t-value, behind t(T) Δ, and further on the t-values above T, which are 0.
 -- Assumes nothing.
-use Rattle.std.specs.Prelude.{◌≡◌, Bool, ◌&&◌, eqb}
+use Rattle.std.specs.Prelude.{◌≡◌, Bool, ◌&&◌, eqb, Some}
 use Rattle.std.proofs.Math.Path.{refl, ap, ap₂}
 use Rattle.std.proofs.Common.{◌∙◌, zero-add, suc-add, eq-eqb, ne_eqb}
 use Rattle.std.proofs.Math.Bool.{true, false, cond, and-false}
@@ -15,7 +15,6 @@ use Rattle.definitions.specs.Answers.{next_row_values}
 use Rattle.definitions.specs.Ranking.{least_top, largest_top}
 use Rattle.definitions.specs.Catalogue.{values_size, t_at, delta_at, row_at}
 use Rattle.definitions.specs.declared.Row.{Row}
-use Rattle.definitions.specs.declared.NextRow.TheVariants.{Found}
 use Rattle.row_results.specs.Results.{behind_t, row_result}
 
 module _ (top : ℕ) (gaps : Bool) (delta : ℕ) (t : ℕ → ℕ) (above : (s : ℕ) → top < s → t s ≡ 0) where
@@ -63,7 +62,7 @@ module _ (m top : ℕ) (gaps : Bool) (body : List ℕ) (place next : ℕ) (low :
   row = row_at m top gaps body place
 
   abbrev values : List ℕ
-  values = next_row_values (Found row)
+  values = next_row_values (Some row)
 
   -- The numbers behind t(3), which are those behind the t-values up to t(8).
   values_are : map (behind_t values top gaps) (numbers least_top (values_size largest_top))

@@ -1,12 +1,11 @@
 // A row of a degree's body as a struct that C takes by value.
 #![tactic(auto)]
 
-ghost use Rattle.std.specs.Prelude.{◌≡◌, cond, eqb};
+ghost use Rattle.std.specs.Prelude.{◌≡◌, cond, eqb, Some};
 ghost use Rattle.definitions.specs.Answers.{next_row_values};
-ghost use Rattle.definitions.specs.declared.NextRow.TheVariants.{Found};
 ghost use Rattle.row_results.specs.Results.{page_row, row_result};
 
-use definitions::{NextRow, Row};
+use definitions::Row;
 
 // A row of a body: how many numbers it has, 0 at the end; the place behind it; its numbers as a page has them, and 0 behind them.
 #[repr(C)]
@@ -26,7 +25,7 @@ pub fn behind_t(t: u32, delta: u32, top: u32, s: u32) -> u32
 
 // The numbers of a row as a page has them, and 0 behind them.
 pub fn page_row(found: Row, top: u32, gaps: bool) -> [u32; limits::LONGEST_ROW]
-    ensures { result ≡ page_row (next_row_values (Found found)) top gaps }
+    ensures { result ≡ page_row (next_row_values (Some found)) top gaps }
 {
     if !gaps {
         return [
@@ -49,16 +48,16 @@ pub fn page_row(found: Row, top: u32, gaps: bool) -> [u32; limits::LONGEST_ROW]
     ]
 }
 
-pub fn row(answer: NextRow, top: u32, gaps: bool, next: usize) -> FenyurkaRow
+pub fn row(answer: Option<Row>, top: u32, gaps: bool, next: usize) -> FenyurkaRow
     ensures { result ≡ row_result (next_row_values answer) top gaps next }
 {
     match answer {
-        NextRow::Found(found) => FenyurkaRow {
+        Some(found) => FenyurkaRow {
             count: top as usize + 1 + gaps as usize,
             next,
             numbers: page_row(found, top, gaps),
         },
-        NextRow::End => FenyurkaRow {
+        None => FenyurkaRow {
             count: 0,
             next,
             numbers: [0; limits::LONGEST_ROW],

@@ -26,18 +26,18 @@ abbrev pair : ℕ → ℕ → Pair
 pair p q = record { p = p; q = q }
 
 -- A search goes on in good order, and has counted at most the rows that were offered.
-pub searching_on : {f : Frame} {last : List ℕ} {s t : Search} (l : List Pair) (room : ℕ) → Searching f last (length l + room) s
-    → t ≡ offers f last (met_begun f.list l) s → Searching f last room t
-searching_on {f} {last} {s} {t} l room r e =
+pub searching_on : {f : Frame} {s t : Search} (l : List Pair) (room : ℕ) → Searching f (length l + room) s
+    → t ≡ offers f (met_begun f.list l) s → Searching f room t
+searching_on {f} {s} {t} l room r e =
     let wide = met_begun_wide f.list r.framed.lawful.top.low l in
-    let o = offer_good row_key (width_of f) f.capacity (cut_from f last) (met_begun f.list l) s wide r.good in
+    let o = offer_good row_key (width_of f) f.capacity (cut_from f) (met_begun f.list l) s wide r.good in
     record {
       framed = r.framed;
       good = rw e o.0;
       few = omega (arith, r.few, o.1, ap (λ (x : Search). x.count) e, met_begun_length f.list l);
     }
 
-module _ {left p q : ℕ} {f : Frame} {last : List ℕ} {s : Search} (r : Ready left p q f last s) where
+module _ {left p q : ℕ} {f : Frame} {s : Search} (r : Ready left p q f s) where
   -- ---- at a leaf
 
   module _ (z : left ≡ 0) where
@@ -54,11 +54,11 @@ module _ {left p q : ℕ} {f : Frame} {last : List ℕ} {s : Search} (r : Ready 
     pub leaf_linear : linear_quotients p q ≡ true
     leaf_linear = (tree_sound f.list.degree (pair p q) some_degree leaf_inside).quotients
 
-    pub leaf_searching : Searching f last 1 s
+    pub leaf_searching : Searching f 1 s
     leaf_searching = record { framed = r.searching.framed; good = r.searching.good; few = rw z at r.searching.few }
 
-    pub leaf_done : {o : Search} → o ≡ offers f last (met_begun f.list (pair p q ∷ [])) s
-        → o ≡ offers f last (met_begun f.list (pairs_below left (pair p q))) s
+    pub leaf_done : {o : Search} → o ≡ offers f (met_begun f.list (pair p q ∷ [])) s
+        → o ≡ offers f (met_begun f.list (pairs_below left (pair p q))) s
     leaf_done e = rw (z, pairs_below_zero) e
 
   -- ---- at a node
@@ -95,7 +95,7 @@ module _ {left p q : ℕ} {f : Frame} {last : List ℕ} {s : Search} (r : Ready 
     child_made : (a : ℕ) {c : ℕ} → HasDegree a 1 → c ≡ (child a (pair p q)).p → Proper (f.list.degree - (left - 1)) (pair c p)
     child_made a d e = rw (← level, ← made a e) (child_proper (f.list.degree - left) a (pair p q) d r.proper)
 
-    pub left_ready : {c : ℕ} → c ≡ (child 2 (pair p q)).p → Ready (left - 1) c p f last s
+    pub left_ready : {c : ℕ} → c ≡ (child 2 (pair p q)).p → Ready (left - 1) c p f s
     left_ready e = record {
       searching = record { framed = r.searching.framed; good = r.searching.good; few = omega (arith, r.searching.few, halves) };
       levels = omega (arith, r.levels);
@@ -104,7 +104,7 @@ module _ {left p q : ℕ} {f : Frame} {last : List ℕ} {s : Search} (r : Ready 
     }
 
     pub right_ready : {c d : ℕ} {o : Search} → c ≡ (child 2 (pair p q)).p → d ≡ (child 3 (pair p q)).p
-        → o ≡ offers f last (met_begun f.list (pairs_below (left - 1) (pair c p))) s → Ready (left - 1) d p f last o
+        → o ≡ offers f (met_begun f.list (pairs_below (left - 1) (pair c p))) s → Ready (left - 1) d p f o
     right_ready {c} {d} e g u = record {
       searching = searching_on (pairs_below (left - 1) (pair c p)) (2 ^ (left - 1)) (record {
         framed = r.searching.framed;
@@ -117,15 +117,15 @@ module _ {left p q : ℕ} {f : Frame} {last : List ℕ} {s : Search} (r : Ready 
     }
 
     pub node_done : {c d : ℕ} {a o : Search} → c ≡ (child 2 (pair p q)).p → d ≡ (child 3 (pair p q)).p
-        → a ≡ offers f last (met_begun f.list (pairs_below (left - 1) (pair c p))) s
-        → o ≡ offers f last (met_begun f.list (pairs_below (left - 1) (pair d p))) a
-        → o ≡ offers f last (met_begun f.list (pairs_below left (pair p q))) s
+        → a ≡ offers f (met_begun f.list (pairs_below (left - 1) (pair c p))) s
+        → o ≡ offers f (met_begun f.list (pairs_below (left - 1) (pair d p))) a
+        → o ≡ offers f (met_begun f.list (pairs_below left (pair p q))) s
     node_done {c} {d} e g u v =
         let first : List Pair = pairs_below (left - 1) (pair c p) in
         let second : List Pair = pairs_below (left - 1) (pair d p) in
         v
-        ∙ ap (offers f last (met_begun f.list second)) u
-        ∙ sym (ap (λ (l : List Pair). offers f last (met_begun f.list l) s)
+        ∙ ap (offers f (met_begun f.list second)) u
+        ∙ sym (ap (λ (l : List Pair). offers f (met_begun f.list l) s)
         (below ∙ ap₂ (λ (x y : Pair). pairs_below (left - 1) x ++ pairs_below (left - 1) y) (made 2 e) (made 3 g))
-        ∙ ap (λ (rows : List (List ℕ)). offers f last rows s) (met_begun_append f.list first second)
-        ∙ offer_append row_key (width_of f) f.capacity (cut_from f last) (met_begun f.list first) (met_begun f.list second) s)
+        ∙ ap (λ (rows : List (List ℕ)). offers f rows s) (met_begun_append f.list first second)
+        ∙ offer_append row_key (width_of f) f.capacity (cut_from f) (met_begun f.list first) (met_begun f.list second) s)

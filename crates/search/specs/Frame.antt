@@ -1,5 +1,6 @@
 -- A search as the contracts name it: its cut, what it has found so far, and the bounds within which it works. Assumes nothing.
-use Rattle.std.specs.Prelude.{Bool, true, false, List, ℕ, ◌+◌, ◌*◌, ◌^◌, ◌≤◌, length, take}
+use Rattle.std.specs.Prelude.{◌≡◌, Option, Some, None, List, ℕ, ◌+◌, ◌*◌, ◌^◌, ◌≤◌, length}
+use Rattle.std.specs.Borrow.{Bor}
 use Rattle.std.proofs.Common.{arith}
 use Rattle.definitions.specs.declared.Selection.{Selection}
 use Rattle.definitions.specs.Generator.{largest_degree}
@@ -24,34 +25,39 @@ width_most {l} h = omega (arith, h.top.high, bit_most l.gaps)
 abbrev pub width_of : Frame → ℕ
 width_of f = row_width f.list
 
-abbrev pub cut_if : Bool → List ℕ → Cut
-cut_if true k = after k
-cut_if false k = start
+-- Where a page begins: after a row, or at the start.
+abbrev pub cut_after : Option (Bor (List ℕ)) → Cut
+cut_after (Some r) = after (row_key r.now)
+cut_after None = start
 
--- Where the page begins: after the row `last`, or at the start.
-abbrev pub cut_from : Frame → List ℕ → Cut
-cut_from f last = cut_if f.after (row_key (take (width_of f) last))
+abbrev pub cut_from : Frame → Cut
+cut_from f = cut_after f.last
+
+-- The row that a page begins after has the numbers of a row of the list.
+abbrev pub Lent : Selection → Option (Bor (List ℕ)) → Type 0
+Lent l (Some r) = length r.now ≡ row_width l
+Lent l None = Unit {0}
 
 abbrev pub state_of : List ℕ → Tally → Search
 state_of out t = record { out = out; n = t.kept; count = t.count }
 
 -- Rows offered, one after the other.
-abbrev pub offers : Frame → List ℕ → List (List ℕ) → Search → Search
-offers f last rows s = offer_all row_key (width_of f) f.capacity (cut_from f last) rows s
+abbrev pub offers : Frame → List (List ℕ) → Search → Search
+offers f rows s = offer_all row_key (width_of f) f.capacity (cut_from f) rows s
 
-abbrev pub offer : Frame → List ℕ → List ℕ → Search → Search
-offer f last r s = offered row_key (width_of f) f.capacity (cut_from f last) r s
+abbrev pub offer : Frame → List ℕ → Search → Search
+offer f r s = offered row_key (width_of f) f.capacity (cut_from f) r s
 
--- A lawful list, room for a row of it, and a row's numbers in `last`.
-pub record Framed (f : Frame) (last : List ℕ) : Type 0 where
+-- A lawful list, room for a row of it, and a row that the page begins after, if any.
+pub record Framed (f : Frame) : Type 0 where
   pub lawful : LawfulList f.list
   pub some : 1 ≤ f.capacity
-  pub lent : width_of f ≤ length last
+  pub lent : Lent f.list f.last
 
 -- A search in good order that can count so many rows more.
-pub record Searching (f : Frame) (last : List ℕ) (room : ℕ) (s : Search) : Type 0 where
-  pub framed : Framed f last
-  pub good : Good row_key (width_of f) f.capacity (cut_from f last) s
+pub record Searching (f : Frame) (room : ℕ) (s : Search) : Type 0 where
+  pub framed : Framed f
+  pub good : Good row_key (width_of f) f.capacity (cut_from f) s
   pub few : s.count + room ≤ 2 ^ largest_degree
 
 -- Rows kept in order within the room there is, in a frame.

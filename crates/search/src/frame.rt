@@ -1,12 +1,12 @@
 // A search for the rows of a page: what it is made with, and what it has counted.
 use definitions::Selection;
 
-// The list that is searched, the rows that fit, and whether the page begins after a row or at the start.
+// The list that is searched, how many rows fit, and the row that the page begins after; none at the start.
 #[derive(Clone, Copy)]
-pub struct Frame {
+pub struct Frame<'a> {
     pub list: Selection,
     pub capacity: usize,
-    pub after: bool,
+    pub last: Option<&'a [u32]>,
 }
 
 // How many rows are kept at the front of the slice, and how many were met above the cut.

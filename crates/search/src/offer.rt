@@ -1,5 +1,5 @@
 // What becomes of a pair that the walk meets. Rows are kept without their steps: no key has a step in it, and few of the rows met are kept to the end.
-ghost use Rattle.std.specs.Prelude.{◌≡◌, true, ◌∷◌, [], ◌≤◌, length, take};
+ghost use Rattle.std.specs.Prelude.{◌≡◌, true, ◌∷◌, [], length};
 ghost use Rattle.definitions.specs.Generator.{linear_quotients, accepted};
 ghost use Rattle.definitions.specs.Pages.{above};
 ghost use Rattle.definitions.specs.Ranking.{row_key};
@@ -22,56 +22,51 @@ use row_places::width_of;
 use row_slot::find_slot;
 
 // Whether a row stands above the cut.
-fn is_above(row: &[u32], f: Frame, last: &[u32]) -> bool
-    requires { Framed f last.now × (width_of f ≤ length row.now) }
-    ensures { result ≡ above (cut_from f last.now) (row_key (take (width_of f) row.now)) }
+fn is_above(row: &[u32], f: Frame) -> bool
+    requires { Framed f × (length row.now ≡ width_of f) }
+    ensures { result ≡ above (cut_from f.entry) (row_key row.now) }
 {
-    if !f.after {
-        return true;
+    match f.last {
+        None => true,
+        Some(last) => stands_after(row, last),
     }
-    let width = width_of(f.list);
-    stands_after(row, last, width)
 }
 
 // Puts a row in its slot, where it fits, and answers how many rows are kept.
 fn keep_row(out: &mut [u32], n: usize, f: Frame, row: &[u32]) -> usize
-    requires { Keeping f n out.old × (width_of f ≤ length row.now) }
+    requires { Keeping f n out.old × (length row.now ≡ width_of f) }
     ensures { ◌≡◌ {A = Kept} (record { out = out.new; n = result })
-        (inserted row_key (width_of f) f.capacity (take (width_of f) row.now) (record { out = out.old; n = n })) }
+        (inserted row_key (width_of f.entry) f.entry.capacity row.now (record { out = out.old; n = n })) }
 {
-    let width = width_of(f.list);
-    let at = find_slot(out, n, width, row);
-    insert_row(out, n, width, f.capacity, at, row)
+    let at = find_slot(out, n, row);
+    insert_row(out, n, f.capacity, at, row)
 }
 
 // Offers a row of which all is known but the step.
-fn offer_known(out: &mut [u32], t: Tally, f: Frame, last: &[u32], row: &[u32]) -> Tally
-    requires { Searching f last.now 1 (state_of out.old t) × (width_of f ≤ length row.now) }
+fn offer_known(out: &mut [u32], t: Tally, f: Frame, row: &[u32]) -> Tally
+    requires { Searching f 1 (state_of out.old t) × (length row.now ≡ width_of f) }
     ensures { ◌≡◌ {A = Search} (state_of out.new result)
-        (offer f last.now (take (width_of f) row.now) (state_of out.old t)) }
+        (offer f.entry row.now (state_of out.old t)) }
 {
-    if !is_above(row, f, last) {
+    if !is_above(row, f) {
         return t;
     }
-    let n = t.kept;
-    let kept = keep_row(out, n, f, row);
     Tally {
-        kept: kept,
+        kept: keep_row(out, t.kept, f, row),
         count: t.count + 1,
     }
 }
 
 // Offers the row of an accepted pair.
-fn offer_row(p: u32, q: u32, out: &mut [u32], t: Tally, f: Frame, last: &[u32]) -> Tally
-    requires searching { Searching f last.now 1 (state_of out.old t) }
+fn offer_row(p: u32, q: u32, out: &mut [u32], t: Tally, f: Frame) -> Tally
+    requires searching { Searching f 1 (state_of out.old t) }
     requires well_formed { WellFormed f.list.degree p q }
     requires q_value { accepted f.list.degree p q ≡ true }
     ensures { ◌≡◌ {A = Search} (state_of out.new result)
-        (offer f last.now (row_in f p q) (state_of out.old t)) }
+        (offer f.entry (row_in f.entry p q) (state_of out.old t)) }
 {
     let mut numbers: [u32; LONGEST_ROW] = [0; LONGEST_ROW];
-    let standing = rank::weigh(p, q, out, t, f, last, &mut numbers);
-    match standing {
+    match rank::weigh(p, q, out, t, f, &mut numbers) {
         Standing::Low => t,
         Standing::High => Tally {
             kept: t.kept,
@@ -79,7 +74,7 @@ fn offer_row(p: u32, q: u32, out: &mut [u32], t: Tally, f: Frame, last: &[u32]) 
         },
         Standing::Open => {
             rank::write_delta(f.list, p, q, &mut numbers);
-            offer_known(out, t, f, last, &numbers)
+            offer_known(out, t, f, &numbers[..width_of(f.list)])
         }
     }
 }
@@ -87,12 +82,12 @@ fn offer_row(p: u32, q: u32, out: &mut [u32], t: Tally, f: Frame, last: &[u32]) 
 // Offers the row of a pair of the tree, where the pair is accepted at the list's floor. It is not put into the walk, whose frame stands on the stack
 // once for each level.
 #[inline(never)]
-pub fn offer_pair(p: u32, q: u32, out: &mut [u32], t: Tally, f: Frame, last: &[u32]) -> Tally
-    requires searching { Searching f last.now 1 (state_of out.old t) }
+pub fn offer_pair(p: u32, q: u32, out: &mut [u32], t: Tally, f: Frame) -> Tally
+    requires searching { Searching f 1 (state_of out.old t) }
     requires well_formed { WellFormed f.list.degree p q }
     requires q_value { linear_quotients p q ≡ true }
     ensures { ◌≡◌ {A = Search} (state_of out.new result)
-        (offers f last.now (met_begun f.list (record { p = p; q = q } ∷ [])) (state_of out.old t)) }
+        (offers f.entry (met_begun f.entry.list (record { p = p; q = q } ∷ [])) (state_of out.old t)) }
 {
     let list = f.list;
     let m = list.degree;
@@ -102,5 +97,5 @@ pub fn offer_pair(p: u32, q: u32, out: &mut [u32], t: Tally, f: Frame, last: &[u
     if !reaches_floor(m, list.floor, p, q) {
         return t;
     }
-    offer_row(p, q, out, t, f, last)
+    offer_row(p, q, out, t, f)
 }

@@ -11,16 +11,16 @@ use crate::offer;
 use fractions::tree;
 
 // Offers the rows of the accepted pairs that stand `left` levels below (p, q).
-pub fn visit(left: u32, p: u32, q: u32, out: &mut [u32], t: Tally, f: Frame, last: &[u32]) -> Tally
-    requires { Ready left p q f last.now (state_of out.old t) }
+pub fn visit(left: u32, p: u32, q: u32, out: &mut [u32], t: Tally, f: Frame) -> Tally
+    requires { Ready left p q f (state_of out.old t) }
     ensures { ◌≡◌ {A = Search} (state_of out.new result)
-        (offers f last.now (met_begun f.list (pairs_below left (record { p = p; q = q }))) (state_of out.old t)) }
+        (offers f.entry (met_begun f.entry.list (pairs_below left (record { p = p; q = q }))) (state_of out.old t)) }
 {
     if left == 0 {
-        return offer::offer_pair(p, q, out, t, f, last);
+        return offer::offer_pair(p, q, out, t, f);
     }
     let by_x = tree::child(2, p, q);
-    let half = visit(left - 1, by_x, p, out, t, f, last);
+    let half = visit(left - 1, by_x, p, out, t, f);
     let by_x_plus_one = tree::child(3, p, q);
-    visit(left - 1, by_x_plus_one, p, out, half, f, last)
+    visit(left - 1, by_x_plus_one, p, out, half, f)
 }

@@ -3,11 +3,10 @@
 #![tactic(auto)]
 
 ghost use Rattle.std.specs.Prelude.{◌≡◌};
-ghost use Rattle.definitions.specs.Number.{bit};
 ghost use Rattle.definitions.specs.Answers.{page_values, points_values};
 ghost use Rattle.slice_results.specs.Results.{page_result, points_result};
 
-use definitions::{PageAnswer, PointsAnswer};
+use definitions::{Page, Refusal};
 
 // A page: whether a further row exists, and how many rows were written.
 #[repr(C)]
@@ -19,29 +18,24 @@ pub struct FenyurkaPage {
     pub count: usize,
 }
 
-// C's truth.
-pub fn truth(b: bool) -> u32
-    ensures { result ≡ bit b }
-{
-    if b { 1 } else { 0 }
-}
+impl From<Result<Page, Refusal>> for FenyurkaPage {
+    ghost from_gives = { λ answer r. r ≡ page_result (page_values answer) };
 
-pub fn page(answer: PageAnswer) -> FenyurkaPage
-    ensures { result ≡ page_result (page_values answer) }
-{
-    match answer {
-        PageAnswer::Page(rows, further) => FenyurkaPage {
-            refusal: 0,
-            quotient_degree: 0,
-            more: truth(further),
-            count: rows,
-        },
-        PageAnswer::NoPage(refusal) => FenyurkaPage {
-            refusal: answers::refusal_number(refusal),
-            quotient_degree: answers::refusal_degree(refusal),
-            more: 0,
-            count: 0,
-        },
+    fn from(answer: Result<Page, Refusal>) -> FenyurkaPage {
+        match answer {
+            Ok(page) => FenyurkaPage {
+                refusal: 0,
+                quotient_degree: 0,
+                more: u32::from(page.further),
+                count: page.rows,
+            },
+            Err(refusal) => FenyurkaPage {
+                refusal: answers::refusal_number(refusal),
+                quotient_degree: answers::refusal_degree(refusal),
+                more: 0,
+                count: 0,
+            },
+        }
     }
 }
 
@@ -54,19 +48,21 @@ pub struct FenyurkaPoints {
     pub count: usize,
 }
 
-pub fn points(answer: PointsAnswer) -> FenyurkaPoints
-    ensures { result ≡ points_result (points_values answer) }
-{
-    match answer {
-        PointsAnswer::Written(words) => FenyurkaPoints {
-            refusal: 0,
-            quotient_degree: 0,
-            count: words,
-        },
-        PointsAnswer::NotWritten(refusal) => FenyurkaPoints {
-            refusal: answers::refusal_number(refusal),
-            quotient_degree: answers::refusal_degree(refusal),
-            count: 0,
-        },
+impl From<Result<usize, Refusal>> for FenyurkaPoints {
+    ghost from_gives = { λ answer r. r ≡ points_result (points_values answer) };
+
+    fn from(answer: Result<usize, Refusal>) -> FenyurkaPoints {
+        match answer {
+            Ok(words) => FenyurkaPoints {
+                refusal: 0,
+                quotient_degree: 0,
+                count: words,
+            },
+            Err(refusal) => FenyurkaPoints {
+                refusal: answers::refusal_number(refusal),
+                quotient_degree: answers::refusal_degree(refusal),
+                count: 0,
+            },
+        }
     }
 }

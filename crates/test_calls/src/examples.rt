@@ -9,7 +9,9 @@
 //     7 0                     the hash
 use crate::cases;
 use definitions::{Position, Selection};
-use slice_results::FenyurkaPage;
+use figure_results::FenyurkaTValue;
+use pair_results::FenyurkaJudgement;
+use slice_results::{FenyurkaPage, FenyurkaPoints};
 use std::io;
 use std::io::{Read, Write};
 
@@ -71,12 +73,12 @@ fn show_first<W: Write>(
 }
 
 fn judge<W: Write>(output: &mut W, asked: &[u32; 6]) -> io::Result<()> {
-    let answer = pair_results::judgement(generator::judge(asked[2], NO_FLOOR, asked[3], asked[4]));
+    let answer = FenyurkaJudgement::from(generator::judge(asked[2], NO_FLOOR, asked[3], asked[4]));
     print_answer(output, b" step ", answer.refusal, u64::from(answer.step))
 }
 
 fn t_value<W: Write>(output: &mut W, asked: &[u32; 6]) -> io::Result<()> {
-    let answer = figure_results::t_value(net::t_value(asked[2], asked[3], asked[4], asked[5]));
+    let answer = FenyurkaTValue::from(net::t_value(asked[2], asked[3], asked[4], asked[5]));
     print_answer(output, b" is ", answer.refusal, u64::from(answer.t))
 }
 
@@ -98,13 +100,13 @@ fn page<W: Write>(output: &mut W, position: Position, slice: &mut [u32]) -> io::
         floor: NO_FLOOR,
         gaps: false,
     };
-    let answer = slice_results::page(ranking::page(ranking::request(list, position), slice));
+    let answer = FenyurkaPage::from(ranking::page(ranking::request(list, position), slice));
     print_page(output, answer)
 }
 
 // The answer, and how many words were written.
 fn points<W: Write>(output: &mut W, asked: &[u32; 6], slice: &mut [u32]) -> io::Result<usize> {
-    let answer = slice_results::points(points::points(
+    let answer = FenyurkaPoints::from(points::points(
         asked[2], NO_FLOOR, asked[3], asked[4], asked[5], slice,
     ));
     print_answer(output, b" count ", answer.refusal, answer.count as u64)?;

@@ -8,6 +8,7 @@
 //     points REFUSAL K WORDS      its words from the first index on, into a slice of four: how many were written
 use crate::{cases, printing};
 use definitions::{Position, Selection};
+use slice_results::FenyurkaPage;
 use std::io;
 use std::io::{Read, Write};
 
@@ -23,7 +24,7 @@ fn page<W: Write>(
     position: Position,
 ) -> io::Result<()> {
     let mut rows = [0u32; ROW_ROOM];
-    let answer = slice_results::page(ranking::page(ranking::request(list, position), &mut rows));
+    let answer = FenyurkaPage::from(ranking::page(ranking::request(list, position), &mut rows));
     streams::print_numbers(output, word, &[answer.refusal, answer.quotient_degree])?;
     streams::print_number(output, b" ", answer.count as u64)
 }

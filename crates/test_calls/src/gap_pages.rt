@@ -5,6 +5,7 @@
 // The stored answers come from a script that counted the points in every box and every cube.
 use crate::cases;
 use definitions::{Position, Selection};
+use slice_results::FenyurkaPage;
 use std::io;
 use std::io::{Read, Write};
 
@@ -19,7 +20,7 @@ fn page<W: Write>(
     position: Position,
     slice: &mut [u32],
 ) -> io::Result<()> {
-    let answer = slice_results::page(ranking::page(ranking::request(list, position), slice));
+    let answer = FenyurkaPage::from(ranking::page(ranking::request(list, position), slice));
     streams::print_numbers(output, b" page", &[answer.refusal, answer.quotient_degree])?;
     streams::print_number(output, b" ", answer.count as u64)?;
     streams::print_number(output, b" ", u64::from(answer.more))?;

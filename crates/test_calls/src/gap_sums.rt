@@ -4,11 +4,12 @@
 // The stored figures of the pairs of Table 1 of document 001, m = 10 to 16, are those of Table 2, with the line of m = 15 as `tables.rt` reads it; all
 // others, that line as it is printed too, come from a script that counted the points in every cube.
 use crate::cases;
+use figure_results::FenyurkaGaps;
 use std::io;
 use std::io::{Read, Write};
 
 fn print_sum<W: Write>(output: &mut W, m: u32, p: u32, q: u32) -> io::Result<()> {
-    let answer = figure_results::gaps(gaps::sum_of_gaps(m, p, q));
+    let answer = FenyurkaGaps::from(gaps::sum_of_gaps(m, p, q));
     if answer.refusal > 0 {
         streams::print_number(output, b" refused ", u64::from(answer.refusal))
     } else {

@@ -1,5 +1,7 @@
 // What two kinds of cases print of a call: the refusal, 0 where there is none, the K that refusal 5 carries, and the values.
 use definitions::{Position, Selection};
+use pair_results::FenyurkaJudgement;
+use slice_results::{FenyurkaPage, FenyurkaPoints};
 use std::io;
 use std::io::Write;
 
@@ -10,7 +12,7 @@ pub(crate) fn judge<W: Write>(
     p: u32,
     q: u32,
 ) -> io::Result<()> {
-    let answer = pair_results::judgement(generator::judge(m, floor, p, q));
+    let answer = FenyurkaJudgement::from(generator::judge(m, floor, p, q));
     streams::print_numbers(
         output,
         b" judge",
@@ -25,7 +27,7 @@ pub(crate) fn short_page<W: Write>(
     list: Selection,
     position: Position,
 ) -> io::Result<()> {
-    let answer = slice_results::page(ranking::page(ranking::request(list, position), &mut []));
+    let answer = FenyurkaPage::from(ranking::page(ranking::request(list, position), &mut []));
     streams::print_numbers(output, word, &[answer.refusal, answer.quotient_degree])
 }
 
@@ -39,7 +41,7 @@ pub(crate) fn points<W: Write>(
     first: u32,
     words: &mut [u32],
 ) -> io::Result<usize> {
-    let answer = slice_results::points(points::points(m, floor, p, q, first, words));
+    let answer = FenyurkaPoints::from(points::points(m, floor, p, q, first, words));
     streams::print_numbers(
         output,
         b" points",

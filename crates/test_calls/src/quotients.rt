@@ -6,6 +6,7 @@
 //     points REFUSAL K            its words from the first on, into an empty slice
 use crate::{cases, printing};
 use definitions::{Position, Selection};
+use pair_results::FenyurkaQuotients;
 use std::io;
 use std::io::{Read, Write};
 
@@ -13,7 +14,7 @@ use std::io::{Read, Write};
 const NO_FLOOR: u32 = 0;
 
 fn test<W: Write>(output: &mut W, m: u32, p: u32, q: u32) -> io::Result<()> {
-    let answer = pair_results::quotients(quotient_test::test_quotients(m, p, q));
+    let answer = FenyurkaQuotients::from(quotient_test::test_quotients(m, p, q));
     streams::print_numbers(
         output,
         b" test",

@@ -4,6 +4,8 @@
 // of that pair: the refusal is 0 where the pair is accepted, and the step 0 where it is not. The stored output has the paper's figures, but for m = 15,
 // where our copy of Table 1 has a coefficient too many: there stands what the definitions say, and the line behind it is without that coefficient.
 use crate::cases;
+use figure_results::FenyurkaTValue;
+use pair_results::FenyurkaJudgement;
 use std::io;
 use std::io::{Read, Write};
 
@@ -23,14 +25,14 @@ fn polynomial(digits: &[u32]) -> u32 {
 
 fn print_t_values<W: Write>(output: &mut W, m: u32, p: u32, q: u32) -> io::Result<()> {
     for s in 3..=8 {
-        let answer = figure_results::t_value(net::t_value(m, p, q, s));
+        let answer = FenyurkaTValue::from(net::t_value(m, p, q, s));
         streams::print_number(output, b" ", u64::from(answer.t))?;
     }
     Ok(())
 }
 
 fn print_pair<W: Write>(output: &mut W, m: u32, p: u32, q: u32) -> io::Result<()> {
-    let judgement = pair_results::judgement(generator::judge(m, NO_FLOOR, p, q));
+    let judgement = FenyurkaJudgement::from(generator::judge(m, NO_FLOOR, p, q));
     streams::print_numbers(output, b"m", &[m, p, q, judgement.refusal, judgement.step])?;
     print_t_values(output, m, p, q)?;
     streams::new_line(output)

@@ -1,17 +1,16 @@
 // Opening a file, and looking a degree up; and that no row is read beside the rows of a body.
 use crate::print::{end, refused, row};
-use definitions::{Lookup, NextRow, Opening};
 use std::io;
 use std::io::Write;
 
 pub(crate) fn opened<W: Write>(output: &mut W, file: &[u8]) -> io::Result<()> {
     streams::print_number(output, b"f ", file.len() as u64)?;
     match catalogue::open(file) {
-        Opening::Entries(n) => {
+        Ok(n) => {
             streams::print_number(output, b" n ", u64::from(n))?;
             streams::new_line(output)
         }
-        Opening::Closed(refusal) => refused(output, refusal),
+        Err(refusal) => refused(output, refusal),
     }
 }
 
@@ -29,8 +28,8 @@ fn beside<W: Write>(
     streams::print_number(output, b" > ", behind as u64)?;
     output.write_all(b" ")?;
     match catalogue_rows::row_at(body, degree, top, gaps, place) {
-        NextRow::Found(r) => row(output, r),
-        NextRow::End => end(output),
+        Some(r) => row(output, r),
+        None => end(output),
     }
 }
 
@@ -64,7 +63,14 @@ pub(crate) fn looked_up<W: Write>(output: &mut W, file: &[u8], degree: u32) -> i
     streams::print_number(output, b"d ", u64::from(degree))?;
     streams::print_number(output, b" l ", body.len() as u64)?;
     match catalogue::lookup(file, degree) {
-        Lookup::Body(top, gaps, rows) => found(output, body, degree, top, gaps, rows),
-        Lookup::NoBody(refusal) => refused(output, refusal),
+        Ok(numbers) => found(
+            output,
+            body,
+            degree,
+            numbers.top,
+            numbers.gaps,
+            numbers.rows,
+        ),
+        Err(refusal) => refused(output, refusal),
     }
 }

@@ -1,6 +1,5 @@
 // A reader, from its first row to its end.
 use crate::print::{end, row};
-use definitions::NextRow;
 use std::io;
 use std::io::Write;
 
@@ -13,7 +12,7 @@ fn opened<W: Write>(output: &mut W, refusal: u32) -> io::Result<()> {
 pub(crate) fn rows<W: Write>(output: &mut W, file: &[u8], degree: u32) -> io::Result<()> {
     let mut at = catalogue_reader::reader(file, degree);
     opened(output, at.refusal)?;
-    while let NextRow::Found(r) = catalogue_reader::next(at) {
+    while let Some(r) = catalogue_reader::next(at) {
         row(output, r)?;
         at = catalogue_reader::advance(at);
     }

@@ -8,7 +8,6 @@
 
 ghost use Rattle.std.specs.Prelude.{◌<◌, length};
 
-use definitions::FileAnswer;
 use std::io;
 use std::io::{Read, Write};
 
@@ -46,11 +45,11 @@ fn print_buffer<W: Write>(output: &mut W, file: &[u8], n: usize) -> io::Result<(
 
 fn write<W: Write>(output: &mut W, floor: u32, entries: &[u32], file: &mut [u8]) -> io::Result<()> {
     match catalogue_writer::write(floor, entries, file) {
-        FileAnswer::File(length) => {
+        Ok(length) => {
             print_number(output, b"length ", length as u64)?;
             print_buffer(output, file, length)
         }
-        FileAnswer::NoFile(refusal) => {
+        Err(refusal) => {
             let number = answers::refusal_number(refusal);
             print_number(output, b"refused ", u64::from(number))?;
             print_buffer(output, file, 0)

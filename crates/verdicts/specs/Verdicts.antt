@@ -1,6 +1,6 @@
 -- Why a pair of a lawful degree is refused at a floor: by the tests in their order, which of its situations decides, or that none applies.
 -- Assumes nothing.
-use Rattle.std.specs.Prelude.{◌≡◌, true, false, ℕ}
+use Rattle.std.specs.Prelude.{◌≡◌, true, false, ℕ, Result, Ok, Err}
 use Rattle.std.proofs.Common.{ap}
 use Rattle.std.proofs.Math.Bool.{not}
 use Rattle.definitions.specs.Answers.{unless}
@@ -9,12 +9,10 @@ use Rattle.definitions.specs.Generator.{well_formed, primitive, linear_quotients
 use Rattle.definitions.specs.declared.Refusal.{Refusal}
 use Rattle.definitions.specs.declared.Refusal.TheVariants.{IllFormedPair, NotPrimitive, QuotientNotLinear, StepNotCoprime, StepBelowFloor}
 use Rattle.answer_laws.specs.Unless.{Decides, here, later, NoneApplies, passes, at_end}
-use Rattle.verdicts.specs.declared.Verdict.{Verdict}
-use Rattle.verdicts.specs.declared.Verdict.TheVariants.{Refused, Passed}
 
 -- What the situations of a pair say, its degree and the floor being lawful.
-unfoldable pub pair_verdict : ℕ → ℕ → ℕ → ℕ → Verdict
-pair_verdict m floor p q = unless (pair_situations m floor p q) Refused Passed
+unfoldable pub pair_verdict : ℕ → ℕ → ℕ → ℕ → Result (Unit {0}) Refusal
+pair_verdict m floor p q = unless (pair_situations m floor p q) Err (Ok tt)
 
 -- None of the refusals 3, 4 and 5 applies.
 pub record Fit (m p q : ℕ) : Type 0 where
@@ -23,15 +21,15 @@ pub record Fit (m p q : ℕ) : Type 0 where
   pub linear : linear_quotients p q ≡ true
 
 -- What the tests of these three say: what the pair is refused for at every floor, or that it is fit.
-unfoldable pub Checked : ℕ → ℕ → ℕ → Verdict → Type 0
-Checked m p q (Refused r) = (floor : ℕ) → Decides r (pair_situations m floor p q)
-Checked m p q Passed = Fit m p q
+unfoldable pub Checked : ℕ → ℕ → ℕ → Result (Unit {0}) Refusal → Type 0
+Checked m p q (Err r) = (floor : ℕ) → Decides r (pair_situations m floor p q)
+Checked m p q (Ok tt) = Fit m p q
 
-pub checked_refused : (m floor p q : ℕ) {v : Verdict} {r : Refusal} → Checked m p q v → v ≡ Refused r → Decides r (pair_situations m floor p q)
+pub checked_refused : (m floor p q : ℕ) {v : Result (Unit {0}) Refusal} {r : Refusal} → Checked m p q v → v ≡ Err r → Decides r (pair_situations m floor p q)
 unfolding Checked
 checked_refused m floor p q h e = (rw e at h) floor
 
-pub checked_fit : {m p q : ℕ} {v : Verdict} → Checked m p q v → v ≡ Passed → Fit m p q
+pub checked_fit : {m p q : ℕ} {v : Result (Unit {0}) Refusal} → Checked m p q v → v ≡ Ok tt → Fit m p q
 unfolding Checked
 checked_fit h e = rw e at h
 

@@ -12,13 +12,6 @@ use full_orders::primitive;
 use orders::floors;
 use polynomial::digits;
 
-// Why a pair is refused, or that it is not.
-#[derive(Clone, Copy)]
-pub enum Verdict {
-    Refused(Refusal),
-    Passed,
-}
-
 // 2^m ≤ p < 2^(m+1) and 1 ≤ q < 2^m: p has the degree m, and q is not 0 and has a smaller one.
 pub fn is_well_formed(m: u32, p: u32, q: u32) -> bool
     requires { LawfulDegree m }
@@ -37,39 +30,35 @@ pub fn is_well_formed(m: u32, p: u32, q: u32) -> bool
 }
 
 // Refusal 3, 4 or 5, the tests in this order, so that the lowest number is given. K is computed only where it is told.
-pub fn check_polynomials(m: u32, p: u32, q: u32) -> Verdict
+pub fn check_polynomials(m: u32, p: u32, q: u32) -> Result<(), Refusal>
     requires { LawfulDegree m }
     ensures { Checked m p q result }
 {
     if !is_well_formed(m, p, q) {
-        return Verdict::Refused(Refusal::IllFormedPair);
+        return Err(Refusal::IllFormedPair);
     }
     if !primitive::is_primitive(m, p) {
-        return Verdict::Refused(Refusal::NotPrimitive);
+        return Err(Refusal::NotPrimitive);
     }
     if !quotients::linear_quotients(p, q, digits::leading_term(m)) {
         let degrees = quotient_degrees::quotient_degrees(p, q);
-        return Verdict::Refused(Refusal::QuotientNotLinear(degrees.quotient));
+        return Err(Refusal::QuotientNotLinear(degrees.quotient));
     }
-    Verdict::Passed
+    Ok(())
 }
 
 // Refusal 3, 4, 5, 6 or 11. Whether the step is coprime to 2^m - 1 is told by q's order, and whether it is below the floor by the powers of x below
 // it, so that nobody looks for the step.
-pub fn check_pair(m: u32, floor: u32, p: u32, q: u32) -> Verdict
+pub fn check_pair(m: u32, floor: u32, p: u32, q: u32) -> Result<(), Refusal>
     requires { LawfulDegree m }
     ensures { result ≡ pair_verdict m floor p q }
 {
-    match check_polynomials(m, p, q) {
-        Verdict::Refused(refusal) => Verdict::Refused(refusal),
-        Verdict::Passed => {
-            if !primitive::has_full_order(m, p, q) {
-                return Verdict::Refused(Refusal::StepNotCoprime);
-            }
-            if !floors::reaches_floor(m, floor, p, q) {
-                return Verdict::Refused(Refusal::StepBelowFloor);
-            }
-            Verdict::Passed
-        }
+    check_polynomials(m, p, q)?;
+    if !primitive::has_full_order(m, p, q) {
+        return Err(Refusal::StepNotCoprime);
     }
+    if !floors::reaches_floor(m, floor, p, q) {
+        return Err(Refusal::StepBelowFloor);
+    }
+    Ok(())
 }

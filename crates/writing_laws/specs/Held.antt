@@ -1,7 +1,7 @@
 -- What a catalogue holds, by the definitions that opening, looking up and reading follow: for each entry, in order, its degree, and T, the kind and the
 -- rows that a lookup and a reader of that degree give. A catalogue that is made of lawful lists holds these lists, and has no other degree.
 -- Assumes nothing.
-use Rattle.std.specs.Prelude.{◌≡◌, refl, Bool, true, false, ℕ, zero, suc, ◌+◌, ◌<◌, length, get_or, replicate}
+use Rattle.std.specs.Prelude.{◌≡◌, refl, Bool, true, false, ℕ, zero, suc, ◌+◌, ◌<◌, length, get_or, replicate, Result, Ok, Err, Option, Some, None}
 use Rattle.std.proofs.Math.Path.{sym, ap}
 use Rattle.std.proofs.Common.{ap₂, ◌∙◌, subst, arith}
 use mathlib.Core.List.Memᴰ
@@ -10,10 +10,7 @@ use Rattle.std.proofs.Math.Nat.{add-zero}
 use Rattle.definitions.specs.Number.{bit}
 use Rattle.definitions.specs.Generator.{lawful_degree}
 use Rattle.definitions.specs.Catalogue.{byte_at, entry_size, first_entry, behind_entry, behind_entries, lookup_numbers, lookup_part, reader_top, reader_gaps}
-use Rattle.definitions.specs.declared.NextRow.{NextRow}
-use Rattle.definitions.specs.declared.NextRow.TheVariants.{Found, End}
 use Rattle.definitions.specs.declared.Lookup.{Lookup}
-use Rattle.definitions.specs.declared.Lookup.TheVariants.{Body, NoBody}
 use Rattle.definitions.specs.declared.Refusal.TheVariants.{DegreeMissing}
 use Rattle.answer_laws.specs.Unless.{unless_refused}
 use Rattle.catalogue_laws.specs.Form.{entry_at_degree}
@@ -21,24 +18,26 @@ use Rattle.catalogue_laws.specs.Missing.{HasEntry, missing_exactly}
 use Rattle.catalogue_laws.specs.Outcome.{looking_missing}
 use Rattle.catalogue_laws.specs.Reader.{hands_out}
 use Rattle.definitions.specs.Writing.{Listed, body_bytes, behind_lists, catalogue_bytes}
+use Rattle.definitions.specs.declared.Row.{Row}
+use Rattle.definitions.specs.declared.Refusal.{Refusal}
 use Rattle.catalogue_laws.specs.Rows.{numbers_up_to, row_of, numbers_of_row}
 use Rattle.catalogue_laws.specs.Files.{LawfulListed, LawfulLists, none, more, Laid, laid_rest, laid_entry_is, laid_behind, catalogue_laid, catalogue_count}
 use Rattle.catalogue_laws.specs.Files.{catalogue_written}
 use Rattle.catalogue_laws.specs.RoundTrip.{no_list, written_numbers, written_rows}
 
 -- What a reader of a degree hands out in n calls.
-abbrev pub read_by : List ℕ → ℕ → ℕ → List NextRow
+abbrev pub read_by : List ℕ → ℕ → ℕ → List (Option Row)
 read_by s m n = hands_out n m (reader_top s m) (reader_gaps s m) (lookup_part s m) 0
 
 -- The numbers of a row that is handed out: T + 1, and T + 2 with Δ.
-abbrev pub numbers_read : ℕ → Bool → NextRow → List ℕ
-numbers_read top gaps (Found r) = numbers_up_to top gaps r
-numbers_read top gaps End = []
+abbrev pub numbers_read : ℕ → Bool → Option Row → List ℕ
+numbers_read top gaps (Some r) = numbers_up_to top gaps r
+numbers_read top gaps None = []
 
 -- The list of a degree: T, the kind and as many rows as the lookup says; no rows where it is refused.
-unfoldable pub list_by : List ℕ → ℕ → Lookup → Listed
-list_by s m (Body top gaps rows) = record { degree = m; top = top; gaps = gaps; rows = map (numbers_read top gaps) (read_by s m rows) }
-list_by s m (NoBody r) = record { degree = m; top = 0; gaps = false; rows = [] }
+unfoldable pub list_by : List ℕ → ℕ → Result Lookup Refusal → Listed
+list_by s m (Ok b) = record { degree = m; top = b.top; gaps = b.gaps; rows = map (numbers_read b.top b.gaps) (read_by s m b.rows) }
+list_by s m (Err r) = record { degree = m; top = 0; gaps = false; rows = [] }
 
 unfoldable pub held_of : List ℕ → ℕ → Listed
 held_of s m = list_by s m (lookup_numbers s m)
@@ -95,9 +94,9 @@ lawful_member (more a h f) (Memᴰ.tail i) = lawful_member f i
 
 -- A row's numbers are given back by the row that is handed out.
 numbers_back : (l : Listed) → LawfulListed l
-    → map (numbers_read l.top l.gaps) (map (λ (r : List ℕ). Found (row_of l.top l.gaps r)) l.rows) ≡ l.rows
+    → map (numbers_read l.top l.gaps) (map (λ (r : List ℕ). Some (row_of l.top l.gaps r)) l.rows) ≡ l.rows
 numbers_back l h =
-    map-map (numbers_read l.top l.gaps) (λ (r : List ℕ). Found (row_of l.top l.gaps r)) l.rows
+    map-map (numbers_read l.top l.gaps) (λ (r : List ℕ). Some (row_of l.top l.gaps r)) l.rows
     ∙ map_same (λ (r : List ℕ). numbers_up_to l.top l.gaps (row_of l.top l.gaps r)) l.rows
     (λ r i.
     let a = indexed [] l.rows i in
@@ -120,17 +119,17 @@ module _ (ls : List Listed) (h : LawfulLists 0 ls) where
     abbrev at : Indexed no_list ls l
     at = indexed no_list ls i
 
-    pub numbers_held : lookup_numbers file l.degree ≡ Body l.top l.gaps (length l.rows)
+    pub numbers_held : lookup_numbers file l.degree ≡ Ok (record { top = l.top; gaps = l.gaps; rows = length l.rows })
     numbers_held = rw at.is at (written_numbers ls h at.index at.below)
 
     pub rows_held : (n : ℕ)
-        → read_by file l.degree (length l.rows + n) ≡ map (λ (r : List ℕ). Found (row_of l.top l.gaps r)) l.rows ++ replicate n End
+        → read_by file l.degree (length l.rows + n) ≡ map (λ (r : List ℕ). Some (row_of l.top l.gaps r)) l.rows ++ replicate n None
     rows_held n = rw at.is at (written_rows ls h at.index at.below n)
 
     pub list_held : held_of file l.degree ≡ l
     unfolding held_of list_by
     list_held =
-        let read : read_by file l.degree (length l.rows) ≡ map (λ (r : List ℕ). Found (row_of l.top l.gaps r)) l.rows =
+        let read : read_by file l.degree (length l.rows) ≡ map (λ (r : List ℕ). Some (row_of l.top l.gaps r)) l.rows =
         rw add-zero at (rows_held 0) ∙ append-nil _ in
         rw numbers_held
         (λ j. record {
@@ -149,7 +148,7 @@ module _ (ls : List Listed) (h : LawfulLists 0 ls) where
       ∙ map_same (λ (l : Listed). held_of file l.degree) ls list_held
 
   -- A degree of no list is missing.
-  pub others_missing : (m : ℕ) → lawful_degree m ≡ true → ((l : Listed) → Memᴰ l ls → l.degree ≡ m → ⊥) → lookup_numbers file m ≡ NoBody DegreeMissing
+  pub others_missing : (m : ℕ) → lawful_degree m ≡ true → ((l : Listed) → Memᴰ l ls → l.degree ≡ m → ⊥) → lookup_numbers file m ≡ Err DegreeMissing
   unfolding lookup_numbers
   others_missing m d other = unless_refused _ _ (looking_missing file m d (catalogue_written ls h) ((missing_exactly file m).1 none_has))
     where

@@ -2,7 +2,7 @@
 -- holds, for each entry in order, T and the ranked rows in order, and no other degree; its length is a sum over the entries. For the row counts fit
 -- (`Few`) and each number fits its field (`Fields`), so the ranked lists are lawful, and a catalogue of lawful lists holds them (`Held`).
 -- Assumes nothing.
-use Rattle.std.specs.Prelude.{◌≡◌, refl, true, false, ℕ, zero, suc, ◌+◌, ◌*◌, ◌^◌, ◌<◌, ltb, length, get_or, replicate}
+use Rattle.std.specs.Prelude.{◌≡◌, refl, true, false, ℕ, zero, suc, ◌+◌, ◌*◌, ◌^◌, ◌<◌, ltb, length, get_or, replicate, Ok, Err, Some, None}
 use Rattle.std.proofs.Math.Path.{ap}
 use Rattle.std.proofs.Common.{◌∙◌, arith, length-append, ltb-true}
 use Rattle.std.proofs.Math.Bool.{and-eq-true_iff}
@@ -16,9 +16,6 @@ use Rattle.definitions.specs.Generator.{lawful_degree}
 use Rattle.definitions.specs.Ranking.{lawful_top, ranked}
 use Rattle.definitions.proofs.Examples.{no_floor}
 use Rattle.definitions.specs.Catalogue.{offset_size, entry_size, row_size, first_entry, catalogue_form, opening, lookup_numbers}
-use Rattle.definitions.specs.declared.NextRow.TheVariants.{Found, End}
-use Rattle.definitions.specs.declared.Opening.TheVariants.{Entries}
-use Rattle.definitions.specs.declared.Lookup.TheVariants.{Body, NoBody}
 use Rattle.definitions.specs.declared.Refusal.TheVariants.{DegreeMissing}
 use Rattle.number_laws.specs.Bounds.{LawfulDegree, LawfulTop, lawful_degree_is, lawful_top_is}
 use Rattle.definitions.specs.Writing.{Listed, body_bytes, contents_bytes, behind_lists, catalogue_bytes, ranked_list, ranked_file}
@@ -97,9 +94,9 @@ module _ (ls : List Selection) (h : LawfulEntries 0 ls) where
   unfolding ranked_file
   file_form = catalogue_written lists (lists_lawful h)
 
-  pub file_opens : opening (ranked_file ls) ≡ Entries (length ls)
+  pub file_opens : opening (ranked_file ls) ≡ Ok (length ls)
   unfolding ranked_file
-  file_opens = written_opens lists (lists_lawful h) ∙ ap Entries (length-map ls ranked_list)
+  file_opens = written_opens lists (lists_lawful h) ∙ ap Ok (length-map ls ranked_list)
 
   -- ROUND TRIP: the same degrees, T, kinds and rows, in order.
   pub file_held : held_in (ranked_file ls) ≡ map ranked_list ls
@@ -108,18 +105,18 @@ module _ (ls : List Selection) (h : LawfulEntries 0 ls) where
 
   -- The same of one degree, by a lookup and by a reader.
   module _ (l : Selection) (i : Memᴰ l ls) where
-    pub file_numbers_lem : lookup_numbers (ranked_file ls) l.degree ≡ Body l.top l.gaps (length (ranked l))
+    pub file_numbers_lem : lookup_numbers (ranked_file ls) l.degree ≡ Ok (record { top = l.top; gaps = l.gaps; rows = length (ranked l) })
     unfolding ranked_file ranked_list
     file_numbers_lem = numbers_held lists (lists_lawful h) (ranked_list l) (Memᴰ.map ranked_list i)
 
     pub file_rows : (n : ℕ)
-        → read_by (ranked_file ls) l.degree (length (ranked l) + n) ≡ map (λ (r : List ℕ). Found (row_of l.top l.gaps r)) (ranked l) ++ replicate n End
+        → read_by (ranked_file ls) l.degree (length (ranked l) + n) ≡ map (λ (r : List ℕ). Some (row_of l.top l.gaps r)) (ranked l) ++ replicate n None
     unfolding ranked_file ranked_list
     file_rows = rows_held lists (lists_lawful h) (ranked_list l) (Memᴰ.map ranked_list i)
 
   -- No other degree is found.
   pub file_missing : (m : ℕ) → lawful_degree m ≡ true → ((l : Selection) → Memᴰ l ls → l.degree ≡ m → ⊥)
-      → lookup_numbers (ranked_file ls) m ≡ NoBody DegreeMissing
+      → lookup_numbers (ranked_file ls) m ≡ Err DegreeMissing
   unfolding ranked_file ranked_list
   file_missing m d other =
       others_missing lists (lists_lawful h) m d

@@ -1,9 +1,9 @@
 -- `catalogue::open` meets its contract. Assumes nothing.
+use Rattle.std.specs.Prelude.{Ok}
 use mathlib.Core.Path.{◌≡◌, sym, ap, ◌∙◌}
 use mathlib.Core.Bool.{true}
 use borrow.Author.Tests.{not-true, not-false}
 use Rattle.definitions.specs.Catalogue.{catalogue_form}
-use Rattle.definitions.specs.declared.Opening.TheVariants.{Entries}
 use Rattle.catalogue_laws.specs.Form.{catalogue_form_lem}
 use Rattle.catalogue_laws.specs.Lookup.{opening_closed, opening_entries}
 use Rattle.catalogue.proofs.open.Goals as goal
@@ -21,4 +21,4 @@ pub byte-requires : goal.byte-requires
 byte-requires c = (catalogue_form_lem _ (formed c)).nonempty
 
 pub returns : goal.returns
-returns c = ap Entries c.byte.ensures.0 ∙ sym (opening_entries _ (formed (goal.at.returns c).Else-not-catalogue_form))
+returns c = ap Ok c.byte.ensures.0 ∙ sym (opening_entries _ (formed (goal.at.returns c).Else-not-catalogue_form))

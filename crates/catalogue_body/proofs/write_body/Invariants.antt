@@ -5,8 +5,8 @@ use Rattle.cursor.specs.Turns.{to_go}
 use Rattle.catalogue_body.proofs.BodyLaws as laws
 use Rattle.catalogue_body.proofs.write_body.Given as goal
 
-abbrev pub invariant-loop-more : goal.invariant-loop-more
-invariant-loop-more l = laws.Underway l.list l.initial.file l.at l.more l.done l.here l.file × (length l.rows ≡ length l.initial.rows)
+abbrev pub invariant-loop-next : goal.invariant-loop-next
+invariant-loop-next l = laws.Underway l.list l.initial.file l.at l.next l.done l.file × (length l.rows ≡ length l.initial.rows)
 
-abbrev pub decreases-loop-more : goal.decreases-loop-more
-decreases-loop-more l = to_go l.more l.here
+abbrev pub decreases-loop-next : goal.decreases-loop-next
+decreases-loop-next l = to_go l.next

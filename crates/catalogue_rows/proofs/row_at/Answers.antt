@@ -1,9 +1,9 @@
 -- `catalogue_rows::row_at` meets its contract. Assumes nothing.
+use Rattle.std.specs.Prelude.{Some}
 use mathlib.Core.Path.{◌≡◌, sym, ap, ◌∙◌}
 use mathlib.Core.Bool.{true}
 use borrow.Author.Tests.{not-true, not-false}
 use Rattle.definitions.specs.Catalogue.{at_row}
-use Rattle.definitions.specs.declared.NextRow.TheVariants.{Found}
 use Rattle.catalogue_laws.specs.Reading.{at_row_out, next_end, next_found}
 use Rattle.catalogue_rows.proofs.row_at.Goals as goal
 use Rattle.catalogue_rows.proofs.row_at.Goals.{Else-not-at_row}
@@ -21,4 +21,4 @@ decode-requires c =
     (r.degree_is_lawful, r.top_is_lawful, r.whole)
 
 pub returns : goal.returns
-returns c = ap Found c.decode.ensures ∙ sym (next_found _ _ _ _ _ (row_here (goal.at.returns c).Else-not-at_row))
+returns c = ap Some c.decode.ensures ∙ sym (next_found _ _ _ _ _ (row_here (goal.at.returns c).Else-not-at_row))

@@ -1,5 +1,6 @@
 -- `catalogue_seek::locate` meets its contract: the refusals in their order, and behind the last of them an entry that is lawful and within the file.
 -- Assumes nothing.
+use Rattle.std.specs.Prelude.{Ok}
 use mathlib.Core.Path.{◌≡◌, sym, ap, ap₂, ◌∙◌, subst}
 use mathlib.Core.Bool.{true}
 use mathlib.Core.List.{List}
@@ -15,7 +16,6 @@ use Rattle.catalogue_laws.specs.Lookup.{FoundEntry}
 use Rattle.catalogue_laws.specs.Outcome.{entry_for, looking_degree, looking_form, looking_missing, looking_finds, looking_found}
 use Rattle.entry_reading.specs.Entries.{as_entry}
 use Rattle.catalogue_seek.specs.Seek.{place_of, locating_refused, locating_given}
-use Rattle.catalogue_seek.specs.declared.Located.TheVariants.{At}
 use Rattle.catalogue_seek.proofs.locate.Goals as goal
 use Rattle.catalogue_seek.proofs.locate.Goals.{After-entry_at-e, Else-not-catalogue_form, Else-not-is_lawful_degree, Else-place-eq0}
 
@@ -79,7 +79,7 @@ row_size-requires c = top_is_lawful (goal.at.row_size-requires c).After-entry_at
 pub returns : goal.returns
 returns c =
     let e = c.entry_at-e.result in
-    ap₂ (λ (size stride : ℕ). At (record { offset = e.offset; size = size; stride = stride; top = e.top; gaps = e.gaps; rows = e.rows }))
+    ap₂ (λ (size stride : ℕ). Ok (record { offset = e.offset; size = size; stride = stride; top = e.top; gaps = e.gaps; rows = e.rows }))
     c.body_size.ensures c.row_size.ensures
-    ∙ ap (λ (x : Entry). At (place_of x)) (read_is (goal.at.returns c).After-entry_at-e)
+    ∙ ap (λ (x : Entry). Ok (place_of x)) (read_is (goal.at.returns c).After-entry_at-e)
     ∙ sym (locating_given _ _ (finds (goal.at.returns c).Else-place-eq0))

@@ -1,11 +1,11 @@
 -- `counter::count_t_value` meets its contract: each test that fails gives its refusal, in the order of their numbers, and past them the smallest t
 -- that is counted is the definition's. Assumes nothing.
+use Rattle.std.specs.Prelude.{Ok}
 use mathlib.Core.Path.{◌≡◌, sym, ap, ◌∙◌}
 use mathlib.Core.Bool.{true}
 use Rattle.definitions.specs.Calls.{counted_degree, counted, uniformity}
 use Rattle.definitions.specs.Generator.{lawful_degree, well_formed}
 use Rattle.definitions.specs.Ranking.{lawful_dimension}
-use Rattle.definitions.specs.declared.Uniformity.TheVariants.{Value}
 use Rattle.number_laws.specs.Bounds.{CountedDegree, LawfulDimension, counted_degree_is, counted_lawful, lawful_dimension_is}
 use Rattle.answer_laws.specs.Measured.{wrong_dimension, ill_formed, measured, not_counted, counted_passes, counted_uniformity}
 use Rattle.polynomial_laws.specs.Degree.{positive}
@@ -68,5 +68,5 @@ pub returns : goal.returns
 returns c =
     let known = (goal.at.returns c).Else-not-is_counted_degree in
     let value = counted_value _ _ _ (positive (formed (goal.at.returns c).Else-not-is_well_formed).degree_p) _ c.build_points-points.ensures _ (dimension_lawful (goal.at.returns c).Else-not-is_lawful_dimension).high in
-    ap Value (c.smallest_t.ensures ∙ value)
+    ap Ok (c.smallest_t.ensures ∙ value)
     ∙ sym (answer_is known ∙ measured _ _ _ _ (lawful known) (dimension_passed (goal.at.returns c).Else-not-is_lawful_dimension) (pair_passed (goal.at.returns c).Else-not-is_well_formed))

@@ -2,4 +2,4 @@
 use Rattle.interface.proofs.fenyurka_count_t_value.Goals as goal
 
 pub returns : goal.returns
-returns c = rw (c.t_value.ensures, c.count_t_value.ensures)
+returns c = rw (c.from.ensures, c.count_t_value.ensures)

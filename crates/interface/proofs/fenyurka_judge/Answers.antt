@@ -2,4 +2,4 @@
 use Rattle.interface.proofs.fenyurka_judge.Goals as goal
 
 pub returns : goal.returns
-returns c = rw (c.judgement.ensures, c.judge.ensures)
+returns c = rw (c.from.ensures, c.judge.ensures)

@@ -2,4 +2,4 @@
 use Rattle.interface.proofs.fenyurka_lookup.Goals as goal
 
 pub returns : goal.returns
-returns c = rw (c.body.ensures, c.locate.ensures)
+returns c = rw (c.from.ensures, c.locate.ensures)

@@ -2,4 +2,4 @@
 use Rattle.interface.proofs.fenyurka_open.Goals as goal
 
 pub returns : goal.returns
-returns c = rw (c.catalogue.ensures, c.open.ensures)
+returns c = rw (c.from.ensures, c.open.ensures)

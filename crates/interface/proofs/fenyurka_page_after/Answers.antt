@@ -5,4 +5,4 @@ pub returns : goal.returns
 returns c =
     let answer = c.page.ensures in
     let request = c.page_request.ensures in
-    record { value = rw (c.page-2.ensures, answer.answer, request); rows_after = rw request at answer.slice }
+    record { value = rw (c.from.ensures, answer.answer, request); rows_after = rw request at answer.slice }

@@ -4,4 +4,4 @@ use Rattle.interface.proofs.fenyurka_points.Goals as goal
 pub returns : goal.returns
 returns c =
     let answer = c.points.ensures in
-    record { value = rw (c.points-2.ensures, answer.answer); words_after = answer.slice }
+    record { value = rw (c.from.ensures, answer.answer); words_after = answer.slice }

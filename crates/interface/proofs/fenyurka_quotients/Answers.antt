@@ -2,4 +2,4 @@
 use Rattle.interface.proofs.fenyurka_quotients.Goals as goal
 
 pub returns : goal.returns
-returns c = rw (c.quotients.ensures, c.test_quotients.ensures)
+returns c = rw (c.from.ensures, c.test_quotients.ensures)

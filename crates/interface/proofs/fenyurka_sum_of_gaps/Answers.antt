@@ -2,4 +2,4 @@
 use Rattle.interface.proofs.fenyurka_sum_of_gaps.Goals as goal
 
 pub returns : goal.returns
-returns c = rw (c.gaps.ensures, c.sum_of_gaps.ensures)
+returns c = rw (c.from.ensures, c.sum_of_gaps.ensures)

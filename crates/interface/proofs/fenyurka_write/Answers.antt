@@ -4,4 +4,4 @@ use Rattle.interface.proofs.fenyurka_write.Goals as goal
 pub returns : goal.returns
 returns c =
     let answer = c.write.ensures in
-    record { value = rw (c.file.ensures, answer.value); file_after = answer.file_after }
+    record { value = rw (c.from.ensures, answer.value); file_after = answer.file_after }

@@ -1,11 +1,11 @@
 -- `net::t_value` meets its contract: each test that fails gives its refusal, in the order of their numbers, and past them t(s) is the definition's.
 -- Assumes nothing.
+use Rattle.std.specs.Prelude.{Ok}
 use mathlib.Core.Path.{◌≡◌, sym, ap, ◌∙◌}
 use mathlib.Core.Bool.{true}
 use borrow.Author.Tests.{not-true, not-false}
 use Rattle.definitions.specs.Generator.{lawful_degree, well_formed}
 use Rattle.definitions.specs.Ranking.{lawful_dimension}
-use Rattle.definitions.specs.declared.Uniformity.TheVariants.{Value}
 use Rattle.fraction_laws.specs.WellFormed.{WellFormed, well_formed_is}
 use Rattle.number_laws.specs.Bounds.{LawfulDegree, lawful_degree_is, lawful_dimension_is}
 use Rattle.answer_laws.specs.Measured.{wrong_degree, wrong_dimension, ill_formed, measured}
@@ -47,4 +47,4 @@ pub t_at-requires : goal.t_at-requires
 t_at-requires c = record { lawful_degree = (lawful (goal.at.t_at-requires c).Else-not-is_lawful_degree, (formed (goal.at.t_at-requires c).Else-not-is_well_formed).degree_p); stop = c.stop_bound-bound.ensures; lawful_dimension = (lawful_dimension_is _).0 (dimension_passed (goal.at.t_at-requires c).Else-not-is_lawful_dimension) }
 
 pub returns : goal.returns
-returns c = ap Value c.t_at.ensures ∙ sym (measured _ _ _ _ (degree_passed (goal.at.returns c).Else-not-is_lawful_degree) (dimension_passed (goal.at.returns c).Else-not-is_lawful_dimension) (pair_passed (goal.at.returns c).Else-not-is_well_formed))
+returns c = ap Ok c.t_at.ensures ∙ sym (measured _ _ _ _ (degree_passed (goal.at.returns c).Else-not-is_lawful_degree) (dimension_passed (goal.at.returns c).Else-not-is_lawful_dimension) (pair_passed (goal.at.returns c).Else-not-is_well_formed))

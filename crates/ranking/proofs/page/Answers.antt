@@ -1,19 +1,20 @@
 -- `page` refuses by the first situation of the request that applies, and else fills the slice at its position. Assumes nothing.
+use Rattle.std.specs.Prelude.{Ok}
 use mathlib.Core.Path.{◌≡◌, sym, ◌∙◌}
 use mathlib.Core.Bool.{true}
 use native.Mathlib.Omega.{arith}
 use borrow.Author.Tests.{not-false, not-true}
+use Rattle.std.proofs.lemmas.Result.{err_from_is_err_and}
 use Rattle.definitions.specs.Calls.{selection_of}
 use Rattle.definitions.specs.Generator.{lawful_degree, lawful_floor}
 use Rattle.definitions.specs.Ranking.{lawful_top}
 use Rattle.number_laws.specs.Bounds.{lawful_degree_is, lawful_top_is}
-use Rattle.verdicts.specs.declared.Verdict.TheVariants.{Passed}
 use Rattle.search.specs.Frame.{LawfulList}
 use Rattle.ranking.specs.Positions.{position_verdict}
 use Rattle.ranking.proofs.PageLaws as laws
 use Rattle.ranking.proofs.PositionLaws.{position_decides, position_passes, position_listed}
 use Rattle.ranking.proofs.page.Goals as goal
-use Rattle.ranking.proofs.page.Goals.{Else-not-is_lawful_floor, Else-not-is_lawful_top, In-Passed}
+use Rattle.ranking.proofs.page.Goals.{Else-not-is_lawful_floor, Else-not-is_lawful_top, In_ok-check_position}
 
 degree_lawful : (c : Else-not-is_lawful_top) → lawful_degree c.args.request.degree ≡ true
 degree_lawful c = sym c.is_lawful_degree.ensures ∙ not-false _ c.if-not-is_lawful_degree.false-raw
@@ -29,8 +30,8 @@ list_lawful c =
     let known = (goal.at.Else-not-is_lawful_floor c).Else-not-is_lawful_top in
     record { degree = (lawful_degree_is _).0 (degree_lawful known); top = (lawful_top_is _).0 (top_lawful known) }
 
-passed : (c : In-Passed) → let r = c.args.request in position_verdict r.degree r.floor r.position ≡ Passed
-passed c = sym c.check_position.ensures ∙ c.in-Passed.is
+passed : (c : In_ok-check_position) → let r = c.args.request in position_verdict r.degree r.floor r.position ≡ Ok tt
+passed c = sym c.check_position.ensures ∙ c.in_ok-check_position.was
 
 -- ---- the returns
 pub returns-then-not-is_lawful_degree : goal.returns-then-not-is_lawful_degree
@@ -57,26 +58,27 @@ pub returns-then-out-width_of : goal.returns-then-out-width_of
 returns-then-out-width_of c =
     let known = (goal.at.returns-then-out-width_of c).Else-not-is_lawful_top in
     let g = c.args in
-    let none = position_passes g.request.degree g.request.floor g.request.position (passed (goal.at.returns-then-out-width_of c).In-Passed) in
+    let none = position_passes g.request.degree g.request.floor g.request.position (passed (goal.at.returns-then-out-width_of c).In_ok-check_position) in
     let all = laws.short_slice g.request g.out.now (degree_lawful known) (top_lawful known) (floor_lawful (goal.at.returns-then-out-width_of c).Else-not-is_lawful_floor) none (omega (arith, c.width_of.ensures)) in record { answer = all.0; slice = all.1 }
 
 pub fill-filled-requires : goal.fill-filled-requires
 fill-filled-requires c =
     let r = c.args.request in
-    (list_lawful (goal.at.fill-filled-requires c).Else-not-is_lawful_floor, position_listed (selection_of r) r.position (passed (goal.at.fill-filled-requires c).In-Passed), omega (arith, c.width_of.ensures))
+    (list_lawful (goal.at.fill-filled-requires c).Else-not-is_lawful_floor, position_listed (selection_of r) r.position (passed (goal.at.fill-filled-requires c).In_ok-check_position), omega (arith, c.width_of.ensures))
 
-pub returns-in-Refused : goal.returns-in-Refused
-returns-in-Refused c =
-    let known = (goal.at.returns-in-Refused c).Else-not-is_lawful_top in
+pub returns-in_err-check_position : goal.returns-in_err-check_position
+returns-in_err-check_position c =
+    let p = err_from_is_err_and c.from_residual.result c.from_residual.ensures.1 in
+    let known = (goal.at.returns-in_err-check_position c).Else-not-is_lawful_top in
     let g = c.args in
-    let verdict = sym c.check_position.ensures ∙ c.in-Refused.is in
-    let all = laws.wrong_position g.request g.out.now (degree_lawful known) (top_lawful known) (floor_lawful (goal.at.returns-in-Refused c).Else-not-is_lawful_floor)
-    (position_decides g.request.degree g.request.floor g.request.position verdict) in record { answer = all.0; slice = all.1 }
+    let verdict = sym c.check_position.ensures ∙ c.in_err-check_position.was in
+    let all = laws.wrong_position g.request g.out.now (degree_lawful known) (top_lawful known) (floor_lawful (goal.at.returns-in_err-check_position c).Else-not-is_lawful_floor)
+    (position_decides g.request.degree g.request.floor g.request.position verdict) in rw (p.1, p.2) (record { answer = all.0; slice = all.1 })
 
-pub returns-else-out-width_of : goal.returns-else-out-width_of
-returns-else-out-width_of c =
-    let known = (goal.at.returns-else-out-width_of c).Else-not-is_lawful_top in
+pub returns : goal.returns
+returns c =
+    let known = (goal.at.returns c).Else-not-is_lawful_top in
     let g = c.args in
-    let none = position_passes g.request.degree g.request.floor g.request.position (passed (goal.at.returns-else-out-width_of c).In-Passed) in
-    let all = laws.page_filled g.request g.out.now (degree_lawful known) (top_lawful known) (floor_lawful (goal.at.returns-else-out-width_of c).Else-not-is_lawful_floor) none
+    let none = position_passes g.request.degree g.request.floor g.request.position (passed (goal.at.returns c).In_ok-check_position) in
+    let all = laws.page_filled g.request g.out.now (degree_lawful known) (top_lawful known) (floor_lawful (goal.at.returns c).Else-not-is_lawful_floor) none
     (omega (arith, c.width_of.ensures)) c.fill-filled.ensures in record { answer = all.0; slice = all.1 }

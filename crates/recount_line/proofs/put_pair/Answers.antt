@@ -1,24 +1,27 @@
 -- `recount_line::put_pair` puts the line of the counter's refusal, or both t-values. Assumes nothing.
-use mathlib.Core.Path.{◌≡◌, ap, ◌∙◌}
+use Rattle.std.specs.Prelude.{Ok}
+use Rattle.std.specs.Prelude.{◌≡◌, refl}
+use Rattle.std.proofs.Common.{sym, ◌∙◌}
 use Rattle.definitions.specs.Calls.{counted, uniformity}
-use Rattle.recount_line.specs.Printed.{result, pair_refused, pair_both}
+use Rattle.recount_line.specs.Printed.{pair_refused, pair_both, quick_given}
 use Rattle.recount_line.proofs.put_pair.Goals as goal
-use Rattle.recount_line.proofs.put_pair.Goals.{After-t_value-count, After-t_value-quick}
+use Rattle.recount_line.proofs.put_pair.Goals.{In-Ok, After-t_value}
 
-counts : (c : After-t_value-count) → let a = c.args in c.t_value-count.result ≡ result (counted a.degree a.p a.q a.dimension)
-counts c = c.t_value-count.ensures ∙ ap result c.count_t_value.ensures
+counts : (c : In-Ok) → let a = c.args in counted a.degree a.p a.q a.dimension ≡ Ok c.in-Ok.count
+counts c = sym c.count_t_value.ensures ∙ c.in-Ok.is
 
-quicks : (c : After-t_value-quick) → let a = c.args in
-    c.t_value-quick.result ≡ result (uniformity a.degree a.p a.q a.dimension)
-quicks c = c.t_value-quick.ensures ∙ ap result c.t_value.ensures
+quicks : (c : After-t_value) → let a = c.args in c.t_value.result ≡ Ok c.in-Ok.count
+quicks c = c.t_value.ensures ∙ quick_given _ _ _ _ (counts (goal.at.After-t_value c).In-Ok)
 
-pub returns-then-count-ne0 : goal.returns-then-count-ne0
-returns-then-count-ne0 c =
-    let known = (goal.at.returns-then-count-ne0 c).After-t_value-count in
-    record { value = rw (pair_refused _ _ _ _ (counts known) c.if-count-ne0.true) (c.put_refused.ensures.value); out_after = rw (pair_refused _ _ _ _ (counts known) c.if-count-ne0.true) (c.put_refused.ensures.out_after) }
+pub unwrap-quick-requires : goal.unwrap-quick-requires
+unwrap-quick-requires c = rw (quicks c) refl
 
-pub returns : goal.returns
-returns c =
-    let known = (goal.at.returns c).After-t_value-count in
-    let known2 = (goal.at.returns c).After-t_value-quick in
-    record { value = rw (pair_both _ _ _ _ (counts known) (quicks known2) c.if-count-ne0.false) (c.put_both.ensures.value); out_after = rw (pair_both _ _ _ _ (counts known) (quicks known2) c.if-count-ne0.false) (c.put_both.ensures.out_after) }
+pub returns-in-Ok : goal.returns-in-Ok
+returns-in-Ok c =
+    let text = pair_both _ _ _ _ (counts (goal.at.returns-in-Ok c).In-Ok) (sym c.t_value.ensures ∙ c.unwrap-quick.ensures) in
+    record { value = rw text c.put_both.ensures.value; out_after = rw text c.put_both.ensures.out_after }
+
+pub returns-in-Err : goal.returns-in-Err
+returns-in-Err c =
+    let text = pair_refused _ _ _ _ (sym c.count_t_value.ensures ∙ c.in-Err.is) in
+    record { value = rw (text, ← c.refusal_number.ensures) c.put_refused.ensures.value; out_after = rw (text, ← c.refusal_number.ensures) c.put_refused.ensures.out_after }

@@ -1,5 +1,4 @@
 -- `fractions::quotients::linear_quotients` meets its contract. Assumes nothing.
-use native.Mathlib.Omega.{arith}
 use Rattle.fractions.proofs.FractionLaws.{run_start, run_end, run_refused, run_by_x, run_by_other}
 use Rattle.fractions.proofs.quotients.linear_quotients.Goals as goal
 
@@ -9,19 +8,8 @@ loop-b-init c = run_start c.requires.modulus c.ranges.p.fits c.requires.q_lt_lea
 pub returns-then-b-lead_of_a-eq0 : goal.returns-then-b-lead_of_a-eq0
 returns-then-b-lead_of_a-eq0 c = run_refused c.loop-b.invariant c.loop-b-test.true c.if-b-lead_of_a-eq0.true
 
-pub overflow_mul-less : goal.overflow_mul-less
-overflow_mul-less c =
-    let at = c.loop-b in
-    record { fits = omega (arith, at.invariant.smaller, at.invariant.fits) }
-
-pub loop-b-smaller-then-less-lead_of_a-eq0 : goal.loop-b-smaller-then-less-lead_of_a-eq0
-loop-b-smaller-then-less-lead_of_a-eq0 c = omega (arith, c.loop-b.invariant.smaller)
-
 pub loop-b-preserved-then-less-lead_of_a-eq0 : goal.loop-b-preserved-then-less-lead_of_a-eq0
 loop-b-preserved-then-less-lead_of_a-eq0 c = run_by_x c.loop-b.invariant c.loop-b-test.true c.if-b-lead_of_a-eq0.false c.if-less-lead_of_a-eq0.true
-
-pub loop-b-smaller : goal.loop-b-smaller
-loop-b-smaller c = omega (arith, c.loop-b.invariant.smaller)
 
 pub loop-b-preserved : goal.loop-b-preserved
 loop-b-preserved c = run_by_other c.loop-b.invariant c.loop-b-test.true c.if-b-lead_of_a-eq0.false c.if-less-lead_of_a-eq0.false

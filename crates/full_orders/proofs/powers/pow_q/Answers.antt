@@ -14,6 +14,8 @@ power_by-requires c = record {
 }
 
 pub returns : goal.returns
-returns c p lead q h squares products =
-    c.power_by.ensures p lead q h (λ y r residue call. (squared h _ residue (search rules) squares).0)
-    (λ y r residue call. (multiplied h _ residue (search rules) q products).0)
+returns c = record {
+  is = λ p lead q h squares products.
+      c.power_by.ensures p lead q h (λ y r residue call. (squared h _ residue (search rules) squares).0)
+      (λ y r residue call. (multiplied h _ residue (search rules) q products).0);
+}

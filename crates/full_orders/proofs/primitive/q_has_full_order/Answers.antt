@@ -8,6 +8,7 @@ use Rattle.number_laws.specs.Bounds.{lead_high}
 use Rattle.order_laws.specs.Cycle.{degree_big}
 use Rattle.order_laws.specs.Orbit.{coprime_step_none_of}
 use Rattle.polynomial.specs.Modulus.{modulus_lead}
+use Rattle.full_orders.specs.Tabled.{TabledPower}
 use Rattle.full_orders.proofs.PowerLaws.{power_state}
 use Rattle.full_orders.proofs.primitive.q_has_full_order.Goals as goal
 
@@ -27,7 +28,8 @@ returns c =
     let w = pre.well_formed in
     c.none_is_one.ensures (state p q) (
     λ e v call.
+    let power : TabledPower c.times_map-products.result c.args.squares.now e v = search rules in
     power_state p q (degree_big c.args.m p (omega (arith, pre.lawful_degree.low)) w.degree_p) e v
-    (search rules ∙ (call.said-raw.1.1.0.ensures p _ q c.args.residues.modulus pre.maps c.times_map-products.ensures).0)
+    (power.is p _ q c.args.residues.modulus pre.maps c.times_map-products.ensures).0
     )
     ∙ sym (coprime_step_none_of c.args.m p (omega (arith, pre.lawful_degree.low)) w.degree_p pre.p_value q w.nonzero w.smaller pre.lawful_degree)

@@ -5,7 +5,7 @@ use mathlib.Core.List.{List}
 use Prim.Native.Nat.{ℕ, suc, ◌-◌, ◌*◌, ◌≤◌, min}
 use native.Mathlib.Nat.{mul-le-mul_right, le_trans}
 use native.Mathlib.Omega.{arith}
-use lib.ListN.{length, take}
+use lib.ListN.{length}
 use Rattle.definitions.specs.Ranking.{row_key}
 use Rattle.page_laws.specs.Rows.{Kept, inserted, spliced, slot_rows, inserted_spliced, inserted_none}
 use Rattle.insertion.proofs.RowLaws as laws
@@ -13,24 +13,27 @@ use borrow.Author.Rules.{rules}
 use Rattle.insertion.proofs.rows.insert_row.Goals as goal
 use Rattle.insertion.proofs.rows.insert_row.Goals.{Start}
 
--- The first numbers of the row that is put in.
+-- The row that is put in, and how long it is.
 abbrev new_row : Start → List ℕ
-new_row e = take e.args.width e.args.row.now
+new_row e = e.args.row.now
+
+abbrev width : Start → ℕ
+width e = length (new_row e)
 
 slot_at_most : (e : Start) → e.args.at ≤ e.args.kept
-slot_at_most e = let g = e.args in omega (arith, e.requires.at_value, slot_rows row_key g.width (new_row e) g.out.now g.kept)
+slot_at_most e = let g = e.args in omega (arith, e.requires.at_value, slot_rows row_key (width e) (new_row e) g.out.now g.kept)
 
-rows_fit : (e : Start) (n : ℕ) → n ≤ e.args.capacity → n * e.args.width ≤ length e.args.out.now
-rows_fit e n h = le_trans (mul-le-mul_right e.args.width h) e.requires.width_in_bounds.2
+rows_fit : (e : Start) (n : ℕ) → n ≤ e.args.capacity → n * width e ≤ length e.args.out.now
+rows_fit e n h = le_trans (mul-le-mul_right (width e) h) e.requires.width_in_bounds.1
 
 -- A splice keeps k rows, the new one and q of the others.
 kept_rows : (e : Start) (q k : ℕ) {out : List ℕ} → e.args.at ≤ q → k ≡ suc q → k ≡ min e.args.capacity (suc e.args.kept) → q ≤ e.args.capacity
-    → out ≡ spliced (e.args.at * e.args.width) (q * e.args.width) (new_row e) e.args.out.now
+    → out ≡ spliced (e.args.at * width e) (q * width e) (new_row e) e.args.out.now
     → ◌≡◌ {A = Kept} (record { out = out; n = k })
-    (inserted row_key e.args.width e.args.capacity (new_row e) (record { out = e.args.out.now; n = e.args.kept }))
+    (inserted row_key (width e) e.args.capacity (new_row e) (record { out = e.args.out.now; n = e.args.kept }))
 kept_rows e q k before one most few written =
     let g = e.args in
-    inserted_spliced row_key g.width g.capacity (new_row e) g.out.now g.kept g.at e.requires.at_value q k before one most (rows_fit e q few) written
+    inserted_spliced row_key (width e) g.capacity (new_row e) g.out.now g.kept g.at e.requires.at_value q k before one most (rows_fit e q few) written
 
 -- ---- with room
 pub overflow_mul-at : goal.overflow_mul-at
@@ -43,8 +46,8 @@ overflow_mul-kept c = omega (arith, rows_fit (goal.at.overflow_mul-kept c).Start
 
 pub splice-requires : goal.splice-requires
 splice-requires c =
-    let ordered = mul-le-mul_right c.args.width (slot_at_most (goal.at.splice-requires c).Start) in
-    let inside = laws.row_in c.args.width c.args.kept c.args.capacity c.if-kept-capacity.true in
+    let ordered = mul-le-mul_right (length c.args.row.now) (slot_at_most (goal.at.splice-requires c).Start) in
+    let inside = laws.row_in (length c.args.row.now) c.args.kept c.args.capacity c.if-kept-capacity.true in
     search rules
 
 pub returns-then-kept-capacity : goal.returns-then-kept-capacity
@@ -63,8 +66,8 @@ overflow_mul-kept-then-at-kept c = omega (arith, rows_fit (goal.at.overflow_mul-
 pub splice-requires-then-at-kept : goal.splice-requires-then-at-kept
 splice-requires-then-at-kept c =
     let g = c.args in
-    let ordered = mul-le-mul_right {m = g.at} {n = g.kept - 1} g.width (omega arith) in
-    let inside = laws.row_in g.width (g.kept - 1) g.capacity (omega arith) in
+    let ordered = mul-le-mul_right {m = g.at} {n = g.kept - 1} (length g.row.now) (omega arith) in
+    let inside = laws.row_in (length g.row.now) (g.kept - 1) g.capacity (omega arith) in
     search rules
 
 pub returns-then-at-kept : goal.returns-then-at-kept
@@ -73,4 +76,4 @@ returns-then-at-kept c = kept_rows (goal.at.returns-then-at-kept c).Start (c.arg
 pub returns-else-at-kept : goal.returns-else-at-kept
 returns-else-at-kept c =
     let g = c.args in
-    inserted_none row_key g.width g.capacity (new_row (goal.at.returns-else-at-kept c).Start) g.out.now g.kept g.at c.requires.at_value (omega arith) (omega arith)
+    inserted_none row_key (length g.row.now) g.capacity g.row.now g.out.now g.kept g.at c.requires.at_value (omega arith) (omega arith)

@@ -1,7 +1,6 @@
 -- `count::count_rows` walks the tree from its root with room for one row, the longest. Assumes nothing.
 use mathlib.Core.Path.{refl}
-use mathlib.Core.Bool.{false}
-use mathlib.Core.List.{[]}
+use Rattle.std.specs.Prelude.{None}
 use native.Mathlib.Omega.{arith}
 use Rattle.search.specs.Frame.{width_most}
 use Rattle.page_rows.proofs.SearchLaws as laws
@@ -10,8 +9,7 @@ use Rattle.page_rows.proofs.count.count_rows.Goals as goal
 pub visit-found-requires : goal.visit-found-requires
 visit-found-requires c =
     let short = width_most c.requires in
-    laws.ready c.args.list false _ _ 1 c.requires (omega arith) (omega arith) (omega arith)
+    laws.ready c.args.list None _ 1 c.requires tt (omega arith) (omega arith)
 
--- From the start no last row is read, so none is named.
 pub returns : goal.returns
-returns c = laws.counted c.args.list false [] _ 1 c.requires c.visit-found.ensures refl
+returns c = laws.counted c.args.list None _ 1 c.requires c.visit-found.ensures refl

@@ -1,13 +1,9 @@
 -- `serve::fill` searches from the start, or from the key of the position's pair. Assumes nothing.
+use Rattle.std.proofs.Common.{arith, length-take}
 use Rattle.search.specs.Frame.{width_most}
 use Rattle.page_rows.proofs.SearchLaws as laws
 use borrow.Author.Rules.{rules}
 use Rattle.page_rows.proofs.serve.fill.Goals as goal
-
--- Any row fits the room for the last one.
-pub search_all-requires : goal.search_all-requires
-search_all-requires c =
-    let short = width_most c.requires.0 in search rules
 
 pub write_key-requires : goal.write_key-requires
 write_key-requires c =
@@ -16,12 +12,11 @@ write_key-requires c =
 
 pub search_all-requires-in-After : goal.search_all-requires-in-After
 search_all-requires-in-After c =
-    let short = width_most c.requires.0 in search rules
+    let short = width_most c.requires.0 in
+    (c.requires.0, simp length-take (omega (arith, c.width_of.ensures, c.write_key.ensures.sized)), c.requires.2)
 
 pub returns-in-Start : goal.returns-in-Start
 returns-in-Start c = laws.filled_start c.args.list c.in-Start.is c.search_all.ensures
 
 pub returns-in-After : goal.returns-in-After
-returns-in-After c =
-    let written = c.write_key.ensures in
-    laws.filled_after c.args.list _ _ c.in-After.is written c.search_all-in-After.ensures
+returns-in-After c = laws.filled_after c.args.list _ _ c.in-After.is (rw c.width_of.ensures c.write_key.ensures.is) c.search_all-in-After.ensures

@@ -24,7 +24,7 @@ pub visit-found-requires : goal.visit-found-requires
 visit-found-requires c =
     let g = c.args in
     let out = g.out.now in
-    laws.ready g.list g.after g.last.now out (capacity c) c.requires.0 c.requires.1
+    laws.ready g.list g.last out (capacity c) c.requires.0 c.requires.1
     (laws.fitting_some g.list out (capacity_is c) c.requires.2) (laws.fitting_room g.list out (capacity_is c))
 
 pub write_steps-requires : goal.write_steps-requires
@@ -34,13 +34,13 @@ write_steps-requires c =
     let out = g.out.now in
     let cap = capacity known in
     let made = c.visit-found.ensures in
-    let fit = laws.kept_fit g.list g.after g.last.now out cap c.requires.0 made (laws.fitting_room g.list out (capacity_is known)) in
-    let due = laws.kept_have_steps g.list g.after g.last.now out cap c.requires.0 made in
+    let fit = laws.kept_fit g.list g.last out cap c.requires.0 made (laws.fitting_room g.list out (capacity_is known)) in
+    let due = laws.kept_have_steps g.list g.last out cap c.requires.0 made in
     record { lawful_degree = rw (width known) ((c.requires.0.degree, omega (arith, c.requires.0.top.low), fit)); have_steps = rw (width known) (due) }
 
 pub returns : goal.returns
 returns c =
     let known = (goal.at.returns c).After-visit-arg-1 in
     let g = c.args in
-    laws.searched g.list g.after g.last.now g.out.now (capacity known) c.requires.0 c.visit-found.ensures (capacity_is known)
+    laws.searched g.list g.last g.out.now (capacity known) c.requires.0 c.visit-found.ensures (capacity_is known)
     (rw (width known) at c.write_steps.ensures)

@@ -3,8 +3,5 @@ use native.Mathlib.Omega.{arith}
 use Rattle.polynomial.specs.Digits.{leading_degree}
 use Rattle.polynomial.proofs.digits.degree_of.Goals as goal
 
-pub overflow_sub-result : goal.overflow_sub-result
-overflow_sub-result c = omega (arith, leading_degree _ c.requires c.ranges.a.fits)
-
 pub returns : goal.returns
 returns c = omega (arith, leading_degree _ c.requires c.ranges.a.fits)

@@ -7,14 +7,6 @@ use Rattle.polynomial.proofs.residues.power_by.Goals as goal
 pub loop-i-init : goal.loop-i-init
 loop-i-init g c = record { calls = c.requires; reached = λ p lead q h s t. power_start h q c.args.e c.ranges.e.fits }
 
-pub square-power-requires : goal.square-power-requires
-square-power-requires g c = let calls = c.loop-i.invariant.calls in calls.one.callable _ calls.at
-
-pub times_q-power-requires : goal.times_q-power-requires
-times_q-power-requires g c =
-    let calls = c.loop-i.invariant.calls in
-    calls.other.callable _ (calls.one.stays _ _ calls.at c.square-power.type_inv c.square-power.ensures)
-
 pub loop-i-preserved-then-e-i-eq1 : goal.loop-i-preserved-then-e-i-eq1
 loop-i-preserved-then-e-i-eq1 g c =
     let calls = c.loop-i.invariant.calls in

@@ -1,10 +1,14 @@
--- `rank::is_low` compares with the row at the position, where there is one. Assumes nothing.
-use borrow.Author.Tests.{not-false, not-true}
-use Rattle.search.proofs.RankLaws as laws
+-- `rank::is_low` compares with the row that the page begins after, where there is one. Assumes nothing.
+use Rattle.std.proofs.Common.{refl, arith, length-take}
 use Rattle.search.proofs.rank.is_low.Goals as goal
 
-pub returns-then-not-f : goal.returns-then-not-f
-returns-then-not-f c = laws.both_no c.args.f.after _ (not-true _ c.if-not-f.true)
+pub ranks_before-requires : goal.ranks_before-requires
+ranks_before-requires c =
+    let lent = rw c.in-Some.is at c.requires.0.lent in
+    (c.requires.1, simp length-take (omega arith))
 
-pub returns : goal.returns
-returns c = laws.both_yes c.args.f.after (not-false _ c.if-not-f.false) c.ranks_before.ensures
+pub returns-in-None : goal.returns-in-None
+returns-in-None c = rw c.in-None.is refl
+
+pub returns-in-Some : goal.returns-in-Some
+returns-in-Some c = rw c.in-Some.is c.ranks_before.ensures

@@ -69,7 +69,7 @@ returns-then-is_low c =
     let turn = (goal.at.returns-then-is_low c).After-next_t-value in
     let m = more turn in
     let a = c.args in
-    laws.low_known c.requires.searching a.p a.q (row turn) (c.loop-s.s + 1) m.from (omega (arith, m.to)) m.is c.is_low.ensures c.if-is_low.true
+    laws.low_known c.requires.searching a.p a.q (row turn) (c.loop-s.s + 1) m.from (omega (arith, m.to)) m.is m.sized c.is_low.ensures c.if-is_low.true
 
 -- ---- the key is behind every row kept, and there is no room left
 pub returns-then-is_high : goal.returns-then-is_high
@@ -77,7 +77,7 @@ returns-then-is_high c =
     let turn = (goal.at.returns-then-is_high c).After-next_t-value in
     let m = more turn in
     let a = c.args in
-    laws.high_known c.requires.searching a.p a.q (row turn) (c.loop-s.s + 1) m.from (omega (arith, m.to)) m.is c.is_high.ensures c.if-is_high.true
+    laws.high_known c.requires.searching a.p a.q (row turn) (c.loop-s.s + 1) m.from (omega (arith, m.to)) m.is m.sized c.is_high.ensures c.if-is_high.true
 
 -- ---- neither is known
 pub loop-s-preserved : goal.loop-s-preserved

@@ -5,4 +5,4 @@ use Rattle.test_catalogues.proofs.walk.rows.Goals as goal
 
 pub loop-r-smaller : goal.loop-r-smaller
 loop-r-smaller g c =
-    moved_on c.loop-r.at c.advance-at.result (sym c.next.ensures ∙ c.in-Found.is) c.advance-at.ensures.1 c.advance-at.ensures.5
+    moved_on c.loop-r.at c.advance-at.result (sym c.next.ensures ∙ c.in-Some.is) c.advance-at.ensures.1 c.advance-at.ensures.5

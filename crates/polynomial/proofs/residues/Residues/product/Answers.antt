@@ -19,6 +19,3 @@ loop-term-preserved c =
     let more = c.loop-term-test.true in
     let double = c.times_x.ensures.0 in
     elim c.if-a-term-eq0.branch [ then-a-term-eq0 w ↦ rw w.summand-is (product_clear c.args.self.modulus at more c.requires double w.if-a-term-eq0.true) | else-a-term-eq0 w ↦ rw w.summand-is (product_set c.args.self.modulus at more c.requires double w.if-a-term-eq0.false) ]
-
-pub returns : goal.returns
-returns c = product_end c.args.self.modulus c.loop-term.invariant c.loop-term-test.false
