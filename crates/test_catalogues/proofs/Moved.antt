@@ -1,5 +1,5 @@
 -- A reader that hands out a row and is moved on has less behind its place: the row, which lies whole within the body. Assumes nothing.
-use Rattle.std.proofs.Common.{◌≡◌, refl, sym, ap, ◌∙◌, arith, ◌-◌, ◌<◌, ℕ, Bool, true, false, Option, Some, None, length}
+use Rattle.std.proofs.Common.{◌≡◌, refl, sym, ap, ◌∙◌, arith, ◌-◌, ◌<◌, ℕ, Bool, true, false, Some, None, length}
 use Rattle.definitions.specs.Catalogue.{at_row, next_row, next_place}
 use Rattle.definitions.specs.declared.Reader.{Reader}
 use Rattle.catalogue_laws.specs.Sizes.{row_size_least}
