@@ -3,12 +3,13 @@
 use mathlib.Core.Path.{◌≡◌, refl, sym, ap, ◌∙◌}
 use mathlib.Core.Bool.{true, false≢true}
 use mathlib.Core.List.{List}
-use Prim.Native.Nat.{ℕ, zero, suc, ◌-◌, ◌*◌, ◌^◌, ◌≤◌, ◌<◌}
+use Prim.Native.Nat.{ℕ, zero, suc, ◌+◌, ◌-◌, ◌*◌, ◌^◌, ◌≤◌, ◌<◌}
 use native.Mathlib.Nat.{one-mul, mul_assoc, pow-succ'}
+use native.Mathlib.Numerals.{add-one}
 use native.Mathlib.Omega.{arith}
 use lib.Bits.{bit_and, and_le_r}
 use lib.Dec.{eqb}
-use lib.ListN.{get_or, set, replicate, length-replicate, get_or-replicate, length-set}
+use lib.ListN.{length, get_or, set, replicate, length-replicate, get_or-replicate, length-set}
 use lib.Seq.{get_or-set_same, get_or-set_other}
 use borrow.Author.Tests.{eqb-true, eq-eqb, ne_eqb}
 use Rattle.definitions.specs.Number.{largest}
@@ -18,7 +19,7 @@ use Rattle.number_laws.specs.Lists.{set_each}
 use Rattle.polynomial_laws.specs.Division.{rem_double}
 use Rattle.polynomial.specs.Modulus.{Modulus, modulus_positive, residue_small}
 use Rattle.order_laws.specs.Giant.{baby_step}
-use Rattle.baby_steps.specs.Chains.{baby_steps, holds, holds_low, Chained, BabySteps}
+use Rattle.baby_steps.specs.Chains.{baby_steps, holds, holds_low, Chained}
 
 pub holds_out : (value : List ℕ) (w j : ℕ) → holds value w (suc j) ≡ true → get_or value j 0 ≡ w
 unfolding holds
@@ -80,34 +81,25 @@ module _ {mask n : ℕ} {first next value : List ℕ} (h : Chained mask n first 
           ∙ sym (largest_on (holds_low mask (set value n v) k) n
           (unfold holds_low in ne_eqb _ k (λ e. other (sym e ∙ ap (λ (x : ℕ). bit_and x mask) stored))))
 
--- The baby steps that are held, and the next one.
-pub record Filling (p q lead count n residue : ℕ) (first next value : List ℕ) : Type 0 where
-  pub within : n ≤ count
-  pub held : BabySteps p q count n first next value
+-- The first n baby steps are held, and the residue is the next one.
+pub record Filling (p q lead n residue : ℕ) (value : List ℕ) : Type 0 where
+  pub each : (j : ℕ) → j < n → get_or value j 0 ≡ baby_step p q j
   pub is : residue ≡ baby_step p q n
   pub reduced : residue < lead
 
-module _ {p lead : ℕ} (modulus : Modulus p lead) {q count : ℕ} {first next value : List ℕ} where
-  pub filling_start : q < lead → Chained (count - 1) 0 first next value → Filling p q lead count 0 q first next value
-  filling_start residue h = record {
-    within = omega arith;
-    held = record { chained = h; each = λ j l. absurd (omega arith) };
+module _ {p lead : ℕ} (modulus : Modulus p lead) {q : ℕ} {value : List ℕ} where
+  pub filling_start : q < lead → Filling p q lead 0 q value
+  filling_start residue = record {
+    each = λ j l. absurd (omega arith);
     is = sym (rw one-mul (residue_small modulus q residue));
     reduced = residue;
   }
 
-  pub filling_more : {n residue place following : ℕ} → Filling p q lead count n residue first next value → n < count → count ≤ baby_steps → place ≡ suc n
-      → (following ≡ rem (2 * residue) p) × (following < lead)
-      → let low = bit_and residue (count - 1) in
-      Filling p q lead count place following (set first low place) (set next n (get_or first low 0)) (set value n residue)
-  filling_more {n} {residue} f l room e double =
-      rw e (record {
-        within = omega arith;
-        held = record {
-          chained = chained_more f.held.chained (omega arith) (omega arith) residue;
-          each = λ j k. set_each (λ j x. x ≡ baby_step p q j) value n residue (omega (arith, f.held.chained.value_room)) f.is j
-              (λ other. f.held.each j (omega (arith, other)));
-        };
+  pub filling_more : {n residue following : ℕ} → Filling p q lead n residue value → n < length value → (following ≡ rem (2 * residue) p) × (following < lead)
+      → Filling p q lead (n + 1) following (set value n residue)
+  filling_more {n} {residue} f room double =
+      rw add-one (record {
+        each = λ j k. set_each (λ j x. x ≡ baby_step p q j) value n residue room f.is j (λ other. f.each j (omega (arith, other)));
         is = double.0 ∙ rw (f.is, ← rem_double p (modulus_positive modulus) (2 ^ n * q), pow-succ' 2 n, mul_assoc);
         reduced = double.1;
       })

@@ -3,6 +3,7 @@ ghost use Rattle.std.specs.Prelude.{◌≡◌, ◌≤◌, length};
 ghost use Rattle.definitions.specs.Catalogue.{first_entry, behind_entries, entry_form, entries_form};
 ghost use Rattle.entry_reading.specs.Entries.{as_entry};
 
+use catalogue_bytes::form::BodyForm;
 use catalogue_bytes::sizes;
 use entry_reading::Entry;
 
@@ -20,10 +21,11 @@ pub fn entry_form(s: &[u8], e: Entry, last: u32, at: usize) -> bool
         && body_form::rows_form(
             s,
             e.rows as usize,
-            e.degree,
-            1 << e.degree,
-            e.top,
-            e.gaps,
+            BodyForm {
+                degree: e.degree,
+                top: e.top,
+                gaps: e.gaps,
+            },
             at,
         )
 }

@@ -25,14 +25,13 @@ pub fn entry_of(s: &[u8], degree: u32) -> usize
     requires { (1 ≤ length s.now) × (contents_end s.now ≤ length s.now) }
     ensures { result ≡ entry_of s.now degree }
 {
-    let mut left = bytes::byte(s, 0) as usize;
+    let n = bytes::byte(s, 0);
     let mut place = sizes::FIRST_ENTRY;
-    while left > 0 {
+    for _ in 0..n {
         let here = bytes::byte(s, place);
         if here == degree {
             return place;
         }
-        left -= 1;
         place += sizes::entry_size(here);
     }
     0

@@ -47,12 +47,11 @@ pub fn width(spare: u32, coordinate: u32) -> u32
 impl Search<'_> {
     // The least weight from here on. Where the range is ended, the coordinates below are gone through, and the next range begins behind it.
     #[cycle(search_below_search_ranges)]
-    pub fn search_ranges(self, start: Place, basis: &mut [u64; SLOTS]) -> u32
-        requires path { PathAt self.table.now self.degree start basis.old }
-        requires room { RoomAt self.degree self.bound start }
-        ensures { SearchedAt self.entry.table.now self.entry.degree self.entry.bound start basis.old basis.new result }
+    pub fn search_ranges(&self, mut at: Place, basis: &mut [u64; SLOTS]) -> u32
+        requires path { PathAt self.now.table.now self.now.degree at basis.old }
+        requires room { RoomAt self.now.degree self.now.bound at }
+        ensures { SearchedAt self.now.table.now self.now.degree self.now.bound at basis.old basis.new result }
     {
-        let mut at = start;
         'rows: loop {
             if at.digits >= at.to || at.counted + at.digits + self.bound >= at.least {
                 at.least = self.search_below(at, basis);
@@ -69,10 +68,10 @@ impl Search<'_> {
 
     // The least weight with rows of the coordinates below, over the range of the coordinate from `from` to `digits`.
     #[cycle(search_below_search_ranges)]
-    pub fn search_below(self, at: Place, basis: &mut [u64; SLOTS]) -> u32
-        requires path { PathAt self.table.now self.degree at basis.old }
-        requires leaving { LeavingAt self.degree self.bound at }
-        ensures { BelowAt self.entry.table.now self.entry.degree self.entry.bound at basis.old basis.new result }
+    pub fn search_below(&self, at: Place, basis: &mut [u64; SLOTS]) -> u32
+        requires path { PathAt self.now.table.now self.now.degree at basis.old }
+        requires leaving { LeavingAt self.now.degree self.now.bound at }
+        ensures { BelowAt self.now.table.now self.now.degree self.now.bound at basis.old basis.new result }
     {
         if at.coordinate == 1 {
             return at.least;
@@ -95,12 +94,12 @@ impl Search<'_> {
     }
 
     // Takes the next digit row of the coordinate: it is packed, reduced, scanned and kept. The place behind it.
-    pub fn take_row(self, at: Place, basis: &mut [u64; SLOTS]) -> Place
-        requires path { PathAt self.table.now self.degree at basis.old }
-        requires room { RoomAt self.degree self.bound at }
-        requires digits_lt_to { (at.digits < at.to) × (at.counted + at.digits + self.bound < at.least) }
+    pub fn take_row(&self, at: Place, basis: &mut [u64; SLOTS]) -> Place
+        requires path { PathAt self.now.table.now self.now.degree at basis.old }
+        requires room { RoomAt self.now.degree self.now.bound at }
+        requires digits_lt_to { (at.digits < at.to) × (at.counted + at.digits + self.now.bound < at.least) }
         ensures digits { result.digits ≡ at.digits + 1 }
-        ensures reached { Reached self.entry.table.now self.entry.degree self.entry.bound at basis.old result basis.new }
+        ensures reached { Reached self.now.table.now self.now.degree self.now.bound at basis.old result basis.new }
     {
         let value = self.table[(at.coordinate * LARGEST_DEGREE + at.digits) as usize];
         let row = (u64::from(value) << 32) ^ (1 << at.taken);

@@ -1,6 +1,8 @@
--- Invariant: the first j places hold the first j baby steps, chained, and the residue is the next one.
+-- Invariant: the baby steps so far are held, and the residue is the next one.
+use mathlib.Core.Path.{◌≡◌}
+use Prim.Native.Nat.{◌-◌}
 use Rattle.baby_steps.proofs.ChainLaws.{Filling}
 use Rattle.baby_steps.proofs.Steps.of.Given as goal
 
-abbrev pub invariant-loop-j : goal.invariant-loop-j
-invariant-loop-j l = Filling l.residues.p l.q l.residues.lead l.count l.j l.residue l.first l.next l.value
+abbrev pub invariant-loop : goal.invariant-loop
+invariant-loop l = (l.steps.mask ≡ l.count - 1) × (l.steps.count ≡ l.counter) × Filling l.residues.p l.q l.residues.lead l.counter l.residue l.steps.value

@@ -5,9 +5,7 @@ use Rattle.baby_steps.proofs.ChainLaws.{seeking_start, seeking_found, seeking_le
 use Rattle.baby_steps.proofs.Steps.place_of.Goals as goal
 
 pub loop-place-init : goal.loop-place-init
-loop-place-init c =
-    let steps = c.args.self.now in
-    seeking_start steps.chained (omega (arith, steps.between.high, steps.between.low))
+loop-place-init c = seeking_start c.args.self.now.chained c.args.self.now.mask_fits
 
 pub returns-then-self-j : goal.returns-then-self-j
 returns-then-self-j c = (seeking_found c.args.self.now.chained c.loop-place.invariant (omega (arith, c.loop-place-test.true)) c.if-self-j.true, omega arith)

@@ -18,7 +18,7 @@ pub search_below-search_ranges-requires : goal.search_below-search_ranges-requir
 search_below-search_ranges-requires t c =
     let l = c.requires.leaving in
     let two : 2 ≤ c.args.at.coordinate = omega (arith, l.numbers.coordinate_low) in
-    let on : c.args.at.counted + c.args.at.from + c.args.self.bound < c.args.at.least = omega arith in
+    let on : c.args.at.counted + c.args.at.from + c.args.self.now.bound < c.args.at.least = omega arith in
     let d = deep l two on in
     let end = c.width.ensures in
     (omega (arith, c.decreases, d), (path_left (omega (arith, d)) (omega (arith, d)) c.requires.path, room_below l two on end.0 end.1))
@@ -27,7 +27,7 @@ pub search_below-returns : goal.search_below-returns
 search_below-returns t c =
     let l = c.requires.leaving in
     let two : 2 ≤ c.args.at.coordinate = omega (arith, l.numbers.coordinate_low) in
-    let on : c.args.at.counted + c.args.at.from + c.args.self.bound < c.args.at.least = omega arith in
+    let on : c.args.at.counted + c.args.at.from + c.args.self.now.bound < c.args.at.least = omega arith in
     let d = deep l two on in
     below_deep (omega (arith, d)) (omega (arith, d)) c.search_ranges.ensures
 
@@ -35,7 +35,7 @@ search_below-returns t c =
 pub search_ranges-returns-then-at-self-2 : goal.search_ranges-returns-then-at-self-2
 search_ranges-returns-then-at-self-2 t c =
     let on = c.rows.invariant in
-    let full : c.search_below.result ≤ c.rows.at.counted + c.rows.at.digits + c.args.self.bound = omega arith in
+    let full : c.search_below.result ≤ c.rows.at.counted + c.rows.at.digits + c.args.self.now.bound = omega arith in
     on.on _ _ (searched_closed on.room.numbers.coordinate_low full c.search_below.ensures)
 
 pub search_ranges-take_row-at-requires-clause-path : goal.search_ranges-take_row-at-requires-clause-path
@@ -50,7 +50,7 @@ search_ranges-rows-preserved t c =
     let a = c.args in
     let here = c.rows.invariant in
     let next = c.take_row-at.ensures.reached in
-    let ahead : (c.if-at.at.coordinate ≡ a.start.coordinate) × ((end : List ℕ) (r : ℕ) → SearchedAt a.self.table.now a.self.degree a.self.bound c.if-at.at c.if-at.basis end r → SearchedAt a.self.table.now a.self.degree a.self.bound a.start a.basis.now end r) =
+    let ahead : (c.if-at.at.coordinate ≡ a.at.coordinate) × ((end : List ℕ) (r : ℕ) → SearchedAt a.self.now.table.now a.self.now.degree a.self.now.bound c.if-at.at c.if-at.basis end r → SearchedAt a.self.now.table.now a.self.now.degree a.self.now.bound a.at a.basis.now end r) =
     elim c.if-at.branch [
       | search_ranges-then-at+else-at-self-2 w ↦ (
         rw w.at-is here.coordinate,

@@ -8,7 +8,7 @@ use Rattle.least_weight.proofs.ranges.Search.take_row.Goals.{After-reduce-v}
 
 reduced : (c : After-reduce-v)
     → let a = c.args.at in
-    Reduced c.args.basis.now a.mask (row_at c.args.self.table.now a.coordinate a.digits a.taken) c.reduce-v.result
+    Reduced c.args.basis.now a.mask (row_at c.args.self.now.table.now a.coordinate a.digits a.taken) c.reduce-v.result
 reduced c = rw c.from.ensures at c.reduce-v.ensures
 
 pub reduce-v-requires-clause-apart : goal.reduce-v-requires-clause-apart
