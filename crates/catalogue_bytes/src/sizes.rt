@@ -19,6 +19,7 @@ pub const OFFSET_SIZE: usize = 4;
 pub const NUMBERS: usize = 3;
 
 // Each of these three.
+#[tactic(auto, unfolding(definitions::specs::Catalogue::number_size))]
 pub fn number_size(degree: u32) -> usize
     ensures { (result ≡ number_size degree) × (result ≤ widest) }
 {
@@ -26,12 +27,14 @@ pub fn number_size(degree: u32) -> usize
 }
 
 // The row count in an entry.
+#[tactic(auto, unfolding(definitions::specs::Catalogue::count_size))]
 pub fn count_size(degree: u32) -> usize
     ensures { (result ≡ count_size degree) × (result ≤ widest) }
 {
     2
 }
 
+#[tactic(auto, unfolding(definitions::specs::Catalogue::entry_size))]
 pub fn entry_size(degree: u32) -> usize
     ensures { result ≡ entry_size degree }
 {
@@ -47,6 +50,7 @@ pub fn value_count(top: u32) -> usize
 }
 
 // With Δ a row has one byte more.
+#[tactic(auto, unfolding(definitions::specs::Catalogue::row_size))]
 pub fn row_size(degree: u32, top: u32, gaps: bool) -> usize
     requires { LawfulTop top }
     ensures { result ≡ row_size degree top gaps }

@@ -24,6 +24,7 @@ fn mark_behind(entries: &[u32], place: usize) -> u32
 }
 
 // The entry at k.
+#[tactic(auto, using(crate::specs::Entries::entry_within, crate::specs::Entries::entry_is))]
 pub fn entry(floor: u32, entries: &[u32], k: usize) -> Selection
     requires { k < length (entries_of floor entries.now) }
     ensures { result ≡ entry_in floor entries.now k }

@@ -1,6 +1,6 @@
 -- Where a degree's body lies in a catalogue, or why a lookup is refused; the answers of a lookup are read off it.
 -- A lookup's answer is a function of where the body lies, refusals and all; a body that is found is within the file. Assumes nothing.
-use Rattle.std.specs.Prelude.{◌≡◌, refl, Bool, false, List, [], ℕ, ◌+◌, ◌*◌, ◌≤◌, length, take, drop, Result, Ok, Err}
+use Rattle.std.specs.Prelude.{◌≡◌, refl, Bool, false, List, [], ℕ, zero, suc, ◌+◌, ◌*◌, ◌<◌, ◌≤◌, Option, Some, None, length, take, drop, Result, Ok, Err}
 use Rattle.std.proofs.Common.{ap, arith}
 use Rattle.definitions.specs.Answers.{refusal_number, unless}
 use Rattle.definitions.specs.Catalogue.{Entry, body_size, row_size, looking, lookup_numbers, lookup_part, reader_refusal, reader_top, reader_gaps}
@@ -10,6 +10,27 @@ use Rattle.answer_laws.specs.Unless.{Decides, NoneApplies, unless_refused, unles
 use Rattle.number_laws.specs.Bounds.{LawfulTop}
 use Rattle.catalogue_laws.specs.Outcome.{entry_for, looking_found}
 use Rattle.catalogue_seek.specs.declared.BodyPlace.{BodyPlace}
+
+-- The place of an entry, as the code has it: 0, where no entry lies, is none.
+abbrev pub unless_zero : ℕ → Option ℕ
+unless_zero zero = None
+unless_zero (suc n) = Some (suc n)
+
+pub unless_zero_none : (n : ℕ) → unless_zero n ≡ None → n ≡ 0
+unless_zero_none zero e = refl
+unless_zero_none (suc n) e = cc
+
+pub unless_zero_some : (n p : ℕ) → unless_zero n ≡ Some p → n ≡ p
+unless_zero_some zero p e = cc
+unless_zero_some (suc n) p e = cc
+
+pub unless_zero_lies : (n p : ℕ) → unless_zero n ≡ Some p → n ≡ 0 → ⊥
+unless_zero_lies zero p e z = cc
+unless_zero_lies (suc n) p e z = omega arith
+
+pub unless_zero_is : (n : ℕ) → 0 < n → unless_zero n ≡ Some n
+unless_zero_is zero h = absurd (omega arith)
+unless_zero_is (suc n) h = refl
 
 -- The body of an entry.
 abbrev pub place_of : Entry → BodyPlace

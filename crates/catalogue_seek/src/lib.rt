@@ -3,7 +3,7 @@
 
 ghost use Rattle.std.specs.Prelude.{◌≡◌, ◌≤◌, length};
 ghost use Rattle.definitions.specs.Catalogue.{contents_end, entry_of};
-ghost use Rattle.catalogue_seek.specs.Seek.{locating};
+ghost use Rattle.catalogue_seek.specs.Seek.{unless_zero, locating};
 
 use catalogue_bytes::{bytes, sizes};
 use definitions::Refusal;
@@ -20,21 +20,21 @@ pub struct BodyPlace {
     pub rows: u32,
 }
 
-// The place of the degree's entry; 0, where no entry lies, where it is missing.
-pub fn entry_of(s: &[u8], degree: u32) -> usize
+// The place of the degree's entry.
+pub fn entry_of(s: &[u8], degree: u32) -> Option<usize>
     requires { (1 ≤ length s.now) × (contents_end s.now ≤ length s.now) }
-    ensures { result ≡ entry_of s.now degree }
+    ensures { result ≡ unless_zero (entry_of s.now degree) }
 {
     let n = bytes::byte(s, 0);
     let mut place = sizes::FIRST_ENTRY;
     for _ in 0..n {
         let here = bytes::byte(s, place);
         if here == degree {
-            return place;
+            return Some(place);
         }
         place += sizes::entry_size(here);
     }
-    0
+    None
 }
 
 // Where a degree's body is, or why the lookup is refused.
@@ -47,10 +47,9 @@ pub fn locate(file: &[u8], degree: u32) -> Result<BodyPlace, Refusal>
     if !catalogue_form::catalogue_form(file) {
         return Err(Refusal::IllFormedCatalogue);
     }
-    let place = entry_of(file, degree);
-    if place == 0 {
+    let Some(place) = entry_of(file, degree) else {
         return Err(Refusal::DegreeMissing);
-    }
+    };
     let e = entry_reading::entry_at(file, place);
     Ok(BodyPlace {
         offset: e.offset as usize,

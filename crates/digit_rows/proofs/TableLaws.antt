@@ -1,11 +1,13 @@
 -- The table of digit rows: coordinate 0 to begin with, and one turn of the loop that adds a coordinate.
 -- Assumes nothing.
 use mathlib.Core.Path.{◌≡◌, refl, sym, ap, ◌∙◌, subst}
-use mathlib.Core.List.{List}
+use mathlib.Core.List.{List, ◌++◌}
 use Prim.Native.Nat.{ℕ, suc, ◌+◌, ◌-◌, ◌*◌, ◌≤◌, ◌<◌}
 use native.Mathlib.Omega.{arith}
 use native.Mathlib.Decide.{dec_lt}
-use lib.ListN.{get_or, set, length, length-set, replicate}
+use lib.ListN.{get_or, set, length, length-set, replicate, take}
+use borrow.Rule.Slice.PartMut.{put_mid, post_of}
+use Rattle.std.proofs.lemmas.List.{length-take-le, set-append_left, set-append_right}
 use Rattle.definitions.specs.Generator.{largest_degree}
 use Rattle.definitions.specs.Polynomial.{prod, rem}
 use Rattle.number_laws.specs.Lists.{set_each}
@@ -26,6 +28,13 @@ begun = record {
   where
     first : {p lead : ℕ} → Modulus p lead → (q j : ℕ) → j ≡ 0 → get_or (replicate table_room 1) (j * largest_degree) 0 ≡ digit_row p q j 0
     first {p} h q j e = rw e (sym (first_row h q))
+
+-- A write to a part of a list, which is put back, is one to the list.
+pub set_part : (a k j v : ℕ) (xs ys : List ℕ) → a ≤ length xs → j < length ys → set (put_mid a k xs ys) (a + j) v ≡ put_mid a k xs (set ys j v)
+set_part a k j v xs ys low fits =
+    let e : a + j - a ≡ j = omega arith in
+    set-append_right (take a xs) (ys ++ post_of a k xs) a (a + j) v (length-take-le a xs low) (omega arith)
+    ∙ rw (e, set-append_left ys (post_of a k xs) j v fits)
 
 -- The coordinates before c are there, and of c the first i rows; `row` is the next.
 pub record Adding (p q lead m c i row : ℕ) (xs : List ℕ) : Type 0 where

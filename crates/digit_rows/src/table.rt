@@ -29,8 +29,8 @@ pub fn add_coordinate(
 {
     let start = coordinate * LARGEST_DEGREE as usize;
     let mut row = residues.product(q, table[start - LARGEST_DEGREE as usize]);
-    for i in 0..degree {
-        table[start + i] = row;
+    for place in &mut table[start..start + degree] {
+        *place = row;
         row = residues.times_x(row);
     }
 }

@@ -18,6 +18,7 @@ pub struct Entry {
 }
 
 // The entry at a place.
+#[tactic(auto, using(catalogue_laws::specs::Sizes::entry_size_is), unfolding(definitions::specs::Catalogue::entry_at))]
 pub fn entry_at(s: &[u8], place: usize) -> Entry
     requires { behind_entry s.now place ≤ length s.now }
     ensures { as_entry result ≡ entry_at s.now place }
@@ -36,6 +37,7 @@ pub fn entry_at(s: &[u8], place: usize) -> Entry
 }
 
 // The size of an entry's body.
+#[tactic(auto, using(catalogue_laws::specs::Sizes::body_size_fits))]
 pub fn body_size(e: Entry) -> usize
     requires { LawfulTop e.top }
     ensures { result ≡ body_size (as_entry e) }

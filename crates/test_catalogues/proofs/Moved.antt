@@ -1,21 +1,20 @@
 -- A reader that hands out a row and is moved on has less behind its place: the row, which lies whole within the body. Assumes nothing.
-use Rattle.std.proofs.Common.{◌≡◌, refl, sym, ap, ◌∙◌, arith, ◌-◌, ◌<◌, ℕ, Bool, true, false, length}
-use Rattle.std.proofs.lemmas.Bool.{false≢true}
+use Rattle.std.proofs.Common.{◌≡◌, refl, sym, ap, ◌∙◌, arith, ◌-◌, ◌<◌, ℕ, Bool, true, false, Some, None, length}
 use Rattle.definitions.specs.Catalogue.{at_row, next_row, next_place}
 use Rattle.definitions.specs.declared.Reader.{Reader}
 use Rattle.catalogue_laws.specs.Sizes.{row_size_least}
 use Rattle.catalogue_laws.specs.Reading.{at_row_out, next_end, next_place_row}
-use Rattle.test_catalogues.specs.Shown.{is_row}
+use Rattle.definitions.specs.declared.Row.{Row}
 
 abbrev pub behind : Reader → ℕ
 behind r = length r.body.now - r.place
 
-pub moved_on : (r r' : Reader) → is_row (next_row r.degree r.top r.gaps r.body.now r.place) ≡ true
+pub moved_on : (r r' : Reader) {row : Row} → next_row r.degree r.top r.gaps r.body.now r.place ≡ Some row
     → r'.body ≡ r.body → r'.place ≡ next_place r.degree r.top r.gaps r.body.now r.place → behind r' < behind r
-moved_on r r' row body place = go (at_row r.degree r.top r.gaps r.body.now r.place) refl
+moved_on r r' {row} found body place = go (at_row r.degree r.top r.gaps r.body.now r.place) refl
   where
     go : (b : Bool) → at_row r.degree r.top r.gaps r.body.now r.place ≡ b → behind r' < behind r
-    go false e = absurd (false≢true (sym (ap is_row (next_end _ _ _ _ _ e)) ∙ row))
+    go false e = let none : None ≡ Some row = sym (next_end _ _ _ _ _ e) ∙ found in cc
     go true e =
         let whole = (at_row_out r.degree r.top r.gaps r.body.now r.place e).whole in
         let same = ap (λ b. length b.now) body in

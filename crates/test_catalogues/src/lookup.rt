@@ -1,5 +1,5 @@
 // Opening a file, and looking a degree up; and that no row is read beside the rows of a body.
-use crate::print::{refused, shown};
+use crate::print::{end, refused, row};
 use std::io;
 use std::io::Write;
 
@@ -7,7 +7,7 @@ pub(crate) fn opened<W: Write>(output: &mut W, file: &[u8]) -> io::Result<()> {
     streams::print_number(output, b"f ", file.len() as u64)?;
     match catalogue::open(file) {
         Ok(n) => {
-            streams::print_number(output, b" n ", n as u64)?;
+            streams::print_number(output, b" n ", u64::from(n))?;
             streams::new_line(output)
         }
         Err(refusal) => refused(output, refusal),
@@ -27,11 +27,10 @@ fn beside<W: Write>(
     streams::print_number(output, b"@ ", place as u64)?;
     streams::print_number(output, b" > ", behind as u64)?;
     output.write_all(b" ")?;
-    shown(
-        output,
-        catalogue_rows::row_at(body, degree, top, gaps, place),
-    )?;
-    Ok(())
+    match catalogue_rows::row_at(body, degree, top, gaps, place) {
+        Some(r) => row(output, r),
+        None => end(output),
+    }
 }
 
 fn print_kind<W: Write>(output: &mut W, gaps: bool) -> io::Result<()> {
@@ -52,8 +51,8 @@ fn found<W: Write>(
     rows: u32,
 ) -> io::Result<()> {
     print_kind(output, gaps)?;
-    streams::print_number(output, b"", top as u64)?;
-    streams::print_number(output, b" r ", rows as u64)?;
+    streams::print_number(output, b"", u64::from(top))?;
+    streams::print_number(output, b" r ", u64::from(rows))?;
     streams::new_line(output)?;
     beside(output, body, degree, top, gaps, 1)?;
     beside(output, body, degree, top, gaps, body.len())
@@ -61,7 +60,7 @@ fn found<W: Write>(
 
 pub(crate) fn looked_up<W: Write>(output: &mut W, file: &[u8], degree: u32) -> io::Result<()> {
     let body = catalogue::body(file, degree);
-    streams::print_number(output, b"d ", degree as u64)?;
+    streams::print_number(output, b"d ", u64::from(degree))?;
     streams::print_number(output, b" l ", body.len() as u64)?;
     match catalogue::lookup(file, degree) {
         Ok(numbers) => found(

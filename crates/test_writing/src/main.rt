@@ -24,49 +24,34 @@ const FILE_ROOM: usize = 65536;
 
 const BEFORE: u8 = 165;
 
-fn print_byte<W: Write>(output: &mut W, byte: u8) -> io::Result<()> {
-    write!(output, "{byte:02x}")
-}
-
 // A word and a number, on a line.
-fn print_number<W: Write>(output: &mut W, word: &[u8], n: usize) -> io::Result<()> {
-    streams::print_number(output, word, n as u64)?;
+fn print_number<W: Write>(output: &mut W, word: &[u8], n: u64) -> io::Result<()> {
+    streams::print_number(output, word, n)?;
     streams::new_line(output)
 }
 
 // The first n bytes, and how many of the others are as they were.
 fn print_buffer<W: Write>(output: &mut W, file: &[u8], n: usize) -> io::Result<()> {
-    let mut untouched = 0;
-    let mut k = 0;
-    while k < file.len() {
-        if k < n {
-            print_byte(output, file[k])?;
-            if k % 32 == 31 {
-                streams::new_line(output)?;
-            }
-        } else if file[k] == BEFORE {
-            untouched += 1;
+    let (written, others) = file.split_at(n.min(file.len()));
+    for line in written.chunks(32) {
+        for byte in line {
+            write!(output, "{byte:02x}")?;
         }
-        k += 1;
-    }
-    if n % 32 > 0 {
         streams::new_line(output)?;
     }
-    print_number(output, b"untouched ", untouched)
+    let untouched = others.iter().filter(|byte| **byte == BEFORE).count();
+    print_number(output, b"untouched ", untouched as u64)
 }
 
 fn write<W: Write>(output: &mut W, floor: u32, entries: &[u32], file: &mut [u8]) -> io::Result<()> {
     match catalogue_writer::write(floor, entries, file) {
         Ok(length) => {
-            print_number(output, b"length ", length)?;
+            print_number(output, b"length ", length as u64)?;
             print_buffer(output, file, length)
         }
         Err(refusal) => {
-            print_number(
-                output,
-                b"refused ",
-                answers::refusal_number(refusal) as usize,
-            )?;
+            let number = answers::refusal_number(refusal);
+            print_number(output, b"refused ", u64::from(number))?;
             print_buffer(output, file, 0)
         }
     }

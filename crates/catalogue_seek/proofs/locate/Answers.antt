@@ -15,11 +15,11 @@ use Rattle.catalogue_laws.specs.Form.{CatalogueForm, catalogue_form_lem}
 use Rattle.catalogue_laws.specs.Lookup.{FoundEntry}
 use Rattle.catalogue_laws.specs.Outcome.{entry_for, looking_degree, looking_form, looking_missing, looking_finds, looking_found}
 use Rattle.entry_reading.specs.Entries.{as_entry}
-use Rattle.catalogue_seek.specs.Seek.{place_of, locating_refused, locating_given}
+use Rattle.catalogue_seek.specs.Seek.{unless_zero_none, unless_zero_some, unless_zero_lies, place_of, locating_refused, locating_given}
 use Rattle.catalogue_seek.proofs.locate.Goals as goal
-use Rattle.catalogue_seek.proofs.locate.Goals.{After-entry_at-e, Else-not-catalogue_form, Else-not-is_lawful_degree, Else-place-eq0}
+use Rattle.catalogue_seek.proofs.locate.Goals.{After-entry_at-e, Else-not-catalogue_form, Else-not-is_lawful_degree, In-Some}
 
-abbrev file : Else-place-eq0 → List ℕ
+abbrev file : In-Some → List ℕ
 file c = c.args.file.now
 
 -- What each test says where it is passed.
@@ -32,20 +32,23 @@ formed c = sym c.catalogue_form.ensures ∙ not-false _ c.if-not-catalogue_form.
 form : (c : Else-not-catalogue_form) → CatalogueForm c.args.file.now
 form c = catalogue_form_lem _ (formed c)
 
-finds : (c : Else-place-eq0) → NoneApplies (looking c.args.file.now c.args.degree)
+finds : (c : In-Some) → NoneApplies (looking c.args.file.now c.args.degree)
 finds c =
-    looking_finds _ _ (degree_lawful (goal.at.Else-place-eq0 c).Else-not-is_lawful_degree) (formed (goal.at.Else-place-eq0 c).Else-not-catalogue_form) (λ e. c.if-place-eq0.false (c.entry_of-place.ensures ∙ e))
+    looking_finds _ _ (degree_lawful (goal.at.In-Some c).Else-not-is_lawful_degree) (formed (goal.at.In-Some c).Else-not-catalogue_form) (unless_zero_lies _ c.in-Some.place (sym c.entry_of.ensures ∙ c.in-Some.is))
+
+placed : (c : In-Some) → entry_of (file c) c.args.degree ≡ c.in-Some.place
+placed c = unless_zero_some _ c.in-Some.place (sym c.entry_of.ensures ∙ c.in-Some.is)
 
 -- The entry that is found: lawful, of the degree, and within the contents.
-found : (c : Else-place-eq0)
+found : (c : In-Some)
     → FoundEntry (file c) (contents_end (file c)) c.args.degree (entry_of (file c) c.args.degree)
 found c = (looking_found _ _ (finds c)).found
 
 read_is : (c : After-entry_at-e) → as_entry c.entry_at-e.result ≡ entry_for c.args.file.now c.args.degree
-read_is c = c.entry_at-e.ensures ∙ ap (entry_at c.args.file.now) c.entry_of-place.ensures
+read_is c = c.entry_at-e.ensures ∙ ap (entry_at c.args.file.now) (sym (placed (goal.at.After-entry_at-e c).In-Some))
 
 top_is_lawful : (c : After-entry_at-e) → LawfulTop c.entry_at-e.result.top
-top_is_lawful c = subst LawfulTop (sym (ap (λ (e : Entry). e.top) (read_is c))) (found (goal.at.After-entry_at-e c).Else-place-eq0).lawful.top_is_lawful
+top_is_lawful c = subst LawfulTop (sym (ap (λ (e : Entry). e.top) (read_is c))) (found (goal.at.After-entry_at-e c).In-Some).lawful.top_is_lawful
 
 pub returns-then-not-is_lawful_degree : goal.returns-then-not-is_lawful_degree
 returns-then-not-is_lawful_degree c =
@@ -57,17 +60,17 @@ returns-then-not-catalogue_form c =
     let fails = sym c.catalogue_form.ensures ∙ not-true _ c.if-not-catalogue_form.true-raw in
     sym (locating_refused _ _ (looking_form _ _ (degree_lawful (goal.at.returns-then-not-catalogue_form c).Else-not-is_lawful_degree) fails))
 
-pub entry_of-place-requires : goal.entry_of-place-requires
-entry_of-place-requires c = ((form c).nonempty, (form c).contents)
+pub entry_of-requires : goal.entry_of-requires
+entry_of-requires c = ((form c).nonempty, (form c).contents)
 
-pub returns-then-place-eq0 : goal.returns-then-place-eq0
-returns-then-place-eq0 c =
-    let missing = sym c.entry_of-place.ensures ∙ c.if-place-eq0.true in
-    sym (locating_refused _ _ (looking_missing _ _ (degree_lawful (goal.at.returns-then-place-eq0 c).Else-not-is_lawful_degree) (formed (goal.at.returns-then-place-eq0 c).Else-not-catalogue_form) missing))
+pub returns-in_default : goal.returns-in_default
+returns-in_default c =
+    let missing = unless_zero_none _ (sym c.entry_of.ensures ∙ c.in_default.is) in
+    sym (locating_refused _ _ (looking_missing _ _ (degree_lawful (goal.at.returns-in_default c).Else-not-is_lawful_degree) (formed (goal.at.returns-in_default c).Else-not-catalogue_form) missing))
 
 pub entry_at-e-requires : goal.entry_at-e-requires
 entry_at-e-requires c =
-    let same = ap (behind_entry c.args.file.now) c.entry_of-place.ensures in
+    let same = ap (behind_entry c.args.file.now) (placed c) in
     omega (arith, same, (found c).whole, (form (goal.at.entry_at-e-requires c).Else-not-catalogue_form).contents)
 
 pub body_size-requires : goal.body_size-requires
@@ -82,4 +85,4 @@ returns c =
     ap₂ (λ (size stride : ℕ). Ok (record { offset = e.offset; size = size; stride = stride; top = e.top; gaps = e.gaps; rows = e.rows }))
     c.body_size.ensures c.row_size.ensures
     ∙ ap (λ (x : Entry). Ok (place_of x)) (read_is (goal.at.returns c).After-entry_at-e)
-    ∙ sym (locating_given _ _ (finds (goal.at.returns c).Else-place-eq0))
+    ∙ sym (locating_given _ _ (finds (goal.at.returns c).In-Some))

@@ -2,5 +2,5 @@
 use Rattle.test_catalogues.proofs.Moved.{behind}
 use Rattle.test_catalogues.proofs.walk.rows.Given as goal
 
-abbrev pub decreases-loop-at : goal.decreases-loop-at
-decreases-loop-at g l = behind l.at
+abbrev pub decreases-loop-r : goal.decreases-loop-r
+decreases-loop-r g l = behind l.at
