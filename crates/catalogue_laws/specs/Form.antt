@@ -58,12 +58,16 @@ numbers_form_is m s at w limit e f = ap₂ (λ (v b : ℕ). every 3 (λ (k : ℕ
 below_is_at_most : (x m : ℕ) → ltb x (m + 1) ≡ leb x m
 below_is_at_most x m = rw add-one (leb-suc-suc x m)
 
--- The bytes are numbers of one byte.
 pub values_form_is : (m top : ℕ) (s : List ℕ) (at place n : ℕ) → place ≡ at + numbers_size m → n ≡ values_size top
+    → every n (λ (k : ℕ). ltb (byte_at s (place + k)) (m + 1)) ≡ values_form m top s at
+values_form_is m top s at place n e f = simp (below_is_at_most, e, f)
+
+-- The bytes are numbers of one byte.
+pub values_form_by_numbers : (m top : ℕ) (s : List ℕ) (at place n : ℕ) → place ≡ at + numbers_size m → n ≡ values_size top
     → every n (λ (k : ℕ). ltb (number_at 1 s (place + k * 1)) (m + 1)) ≡ values_form m top s at
-values_form_is m top s at place n e f =
+values_form_by_numbers m top s at place n e f =
     every_ext n _ (λ k. ltb (byte_at s (place + k)) (m + 1)) (λ k l. let one : k * 1 ≡ k = omega arith in rw (one, number_one s (place + k)))
-    ∙ simp (below_is_at_most, e, f)
+    ∙ values_form_is m top s at place n e f
 
 module _ (m top : ℕ) (s : List ℕ) (at : ℕ) where
   pub row_stop : numbers_form m s at ≡ false → row_form m top s at ≡ false
