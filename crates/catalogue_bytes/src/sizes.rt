@@ -49,7 +49,7 @@ pub fn value_count(top: u32) -> usize
     top as usize + 1 - limits::LEAST_TOP as usize
 }
 
-// With Δ a row has one byte more.
+// With Δ a row has one byte more. Three numbers and no BodyForm: most callers hold a list or an entry, and need this one size of it.
 #[tactic(auto, unfolding(definitions::specs::Catalogue::row_size))]
 pub fn row_size(degree: u32, top: u32, gaps: bool) -> usize
     requires { LawfulTop top }

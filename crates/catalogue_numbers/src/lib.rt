@@ -1,4 +1,5 @@
 // Numbers in bytes, big-endian, written over a buffer. Customers call nothing here.
+// The buffer with a place, and no part of it: parts are promised as written `over` the whole buffer, one behind the other.
 #![tactic(auto)]
 
 ghost use Rattle.std.specs.Prelude.{◌≡◌, ℕ, ◌+◌, ◌<◌, ◌≤◌, length, get_or};
@@ -11,6 +12,7 @@ pub fn write_number(file: &mut [u8], at: usize, width: usize, n: u32)
     ensures { file.new ≡ over at (bytes_of width n) file.old }
 {
     let mut rest = n;
+    // By index: of what `iter_mut` writes a proof learns no element.
     for k in (0..width).rev() {
         file[at + k] = (rest % 256) as u8;
         rest /= 256;

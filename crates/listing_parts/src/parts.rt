@@ -9,6 +9,7 @@ use cursor::reading;
 use listing_start::Printing;
 
 // A part that was put: its bytes, whether more is left, and what.
+// No Option for the two: docs/PROMISES.md names both fields, and the theorem `Printed.next_tells` of `demands` is on `more`.
 #[derive(Clone, Copy)]
 pub struct Part {
     pub bytes: usize,

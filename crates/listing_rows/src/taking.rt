@@ -14,12 +14,7 @@ pub fn how_many(numbers: usize, width: usize, bytes: usize) -> usize
     requires { 1 ≤ width }
     ensures { result ≡ min (numbers / width) (bytes / step_room) }
 {
-    let by_numbers = numbers / width;
-    let by_bytes = bytes / STEP_ROOM;
-    if by_numbers < by_bytes {
-        return by_numbers;
-    }
-    by_bytes
+    (numbers / width).min(bytes / STEP_ROOM)
 }
 
 // The next rows over the front of `rows`, at most so many.

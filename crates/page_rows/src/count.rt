@@ -20,6 +20,6 @@ pub fn count_rows(list: Selection) -> usize
         last: None,
     };
     let none = Tally { kept: 0, count: 0 };
-    let found = walk::visit(list.degree, 1, 0, &mut row, none, frame);
+    let found = walk::visit(list.degree, 1, 0, &mut row, none, &frame);
     found.count
 }

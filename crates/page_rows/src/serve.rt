@@ -26,7 +26,7 @@ fn search_all(list: Selection, last: Option<&[u32]>, out: &mut [u32]) -> Page
         last,
     };
     let none = Tally { kept: 0, count: 0 };
-    let found = walk::visit(list.degree, 1, 0, out, none, frame);
+    let found = walk::visit(list.degree, 1, 0, out, none, &frame);
     write_steps(list.degree, width, found.kept, out);
     Page {
         rows: found.kept,

@@ -1,5 +1,5 @@
 -- `<` of slices is the order of keys, and `<` of pairs of slices that of the joined keys, where the first ones are equally long. Assumes nothing.
-use Rattle.std.proofs.Common.{◌≡◌, refl, sym, ap, ap₂, ◌∙◌, ℕ, ◌-◌, Bool, Option, Some, List, [], ◌∷◌, ◌++◌, length, take, drop, arith, length-drop}
+use Rattle.std.proofs.Common.{◌≡◌, refl, ap, ap₂, ◌∙◌, ℕ, ◌-◌, Bool, Option, Some, List, [], ◌∷◌, ◌++◌, length, take, drop, arith, length-drop}
 use Rattle.std.proofs.Math.Seq.{take_all}
 use Rattle.std.specs.declared.cmp.Ordering.{Ordering}
 use Rattle.std.specs.declared.cmp.Ordering.TheVariants.{Less, Equal, Greater}

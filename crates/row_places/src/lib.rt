@@ -23,5 +23,5 @@ pub fn values_end(list: Selection) -> usize
 pub fn width_of(list: Selection) -> usize
     ensures { result ≡ row_width list }
 {
-    values_end(list) + list.gaps as usize
+    values_end(list) + usize::from(list.gaps)
 }

@@ -22,9 +22,9 @@ use row_places::width_of;
 use row_slot::find_slot;
 
 // Whether a row stands above the cut.
-fn is_above(row: &[u32], f: Frame) -> bool
-    requires { Framed f × (length row.now ≡ width_of f) }
-    ensures { result ≡ above (cut_from f.entry) (row_key row.now) }
+fn is_above(row: &[u32], f: &Frame) -> bool
+    requires { Framed f.now × (length row.now ≡ width_of f.now) }
+    ensures { result ≡ above (cut_from f.now) (row_key row.now) }
 {
     match f.last {
         None => true,
@@ -33,20 +33,20 @@ fn is_above(row: &[u32], f: Frame) -> bool
 }
 
 // Puts a row in its slot, where it fits, and answers how many rows are kept.
-fn keep_row(out: &mut [u32], n: usize, f: Frame, row: &[u32]) -> usize
-    requires { Keeping f n out.old × (length row.now ≡ width_of f) }
+fn keep_row(out: &mut [u32], n: usize, f: &Frame, row: &[u32]) -> usize
+    requires { Keeping f.now n out.old × (length row.now ≡ width_of f.now) }
     ensures { ◌≡◌ {A = Kept} (record { out = out.new; n = result })
-        (inserted row_key (width_of f.entry) f.entry.capacity row.now (record { out = out.old; n = n })) }
+        (inserted row_key (width_of f.now) f.now.capacity row.now (record { out = out.old; n = n })) }
 {
     let at = find_slot(out, n, row);
     insert_row(out, n, f.capacity, at, row)
 }
 
 // Offers a row of which all is known but the step.
-fn offer_known(out: &mut [u32], t: Tally, f: Frame, row: &[u32]) -> Tally
-    requires { Searching f 1 (state_of out.old t) × (length row.now ≡ width_of f) }
+fn offer_known(out: &mut [u32], t: Tally, f: &Frame, row: &[u32]) -> Tally
+    requires { Searching f.now 1 (state_of out.old t) × (length row.now ≡ width_of f.now) }
     ensures { ◌≡◌ {A = Search} (state_of out.new result)
-        (offer f.entry row.now (state_of out.old t)) }
+        (offer f.now row.now (state_of out.old t)) }
 {
     if !is_above(row, f) {
         return t;
@@ -58,12 +58,12 @@ fn offer_known(out: &mut [u32], t: Tally, f: Frame, row: &[u32]) -> Tally
 }
 
 // Offers the row of an accepted pair.
-fn offer_row(p: u32, q: u32, out: &mut [u32], t: Tally, f: Frame) -> Tally
-    requires searching { Searching f 1 (state_of out.old t) }
-    requires well_formed { WellFormed f.list.degree p q }
-    requires q_value { accepted f.list.degree p q ≡ true }
+fn offer_row(p: u32, q: u32, out: &mut [u32], t: Tally, f: &Frame) -> Tally
+    requires searching { Searching f.now 1 (state_of out.old t) }
+    requires well_formed { WellFormed f.now.list.degree p q }
+    requires q_value { accepted f.now.list.degree p q ≡ true }
     ensures { ◌≡◌ {A = Search} (state_of out.new result)
-        (offer f.entry (row_in f.entry p q) (state_of out.old t)) }
+        (offer f.now (row_in f.now p q) (state_of out.old t)) }
 {
     let mut numbers: [u32; LONGEST_ROW] = [0; LONGEST_ROW];
     match rank::weigh(p, q, out, t, f, &mut numbers) {
@@ -82,12 +82,12 @@ fn offer_row(p: u32, q: u32, out: &mut [u32], t: Tally, f: Frame) -> Tally
 // Offers the row of a pair of the tree, where the pair is accepted at the list's floor. It is not put into the walk, whose frame stands on the stack
 // once for each level.
 #[inline(never)]
-pub fn offer_pair(p: u32, q: u32, out: &mut [u32], t: Tally, f: Frame) -> Tally
-    requires searching { Searching f 1 (state_of out.old t) }
-    requires well_formed { WellFormed f.list.degree p q }
+pub fn offer_pair(p: u32, q: u32, out: &mut [u32], t: Tally, f: &Frame) -> Tally
+    requires searching { Searching f.now 1 (state_of out.old t) }
+    requires well_formed { WellFormed f.now.list.degree p q }
     requires q_value { linear_quotients p q ≡ true }
     ensures { ◌≡◌ {A = Search} (state_of out.new result)
-        (offers f.entry (met_begun f.entry.list (record { p = p; q = q } ∷ [])) (state_of out.old t)) }
+        (offers f.now (met_begun f.now.list (record { p = p; q = q } ∷ [])) (state_of out.old t)) }
 {
     let list = f.list;
     let m = list.degree;

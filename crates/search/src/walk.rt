@@ -11,10 +11,10 @@ use crate::offer;
 use fractions::tree;
 
 // Offers the rows of the accepted pairs that stand `left` levels below (p, q).
-pub fn visit(left: u32, p: u32, q: u32, out: &mut [u32], t: Tally, f: Frame) -> Tally
-    requires { Ready left p q f (state_of out.old t) }
+pub fn visit(left: u32, p: u32, q: u32, out: &mut [u32], t: Tally, f: &Frame) -> Tally
+    requires { Ready left p q f.now (state_of out.old t) }
     ensures { ◌≡◌ {A = Search} (state_of out.new result)
-        (offers f.entry (met_begun f.entry.list (pairs_below left (record { p = p; q = q }))) (state_of out.old t)) }
+        (offers f.now (met_begun f.now.list (pairs_below left (record { p = p; q = q }))) (state_of out.old t)) }
 {
     if left == 0 {
         return offer::offer_pair(p, q, out, t, f);

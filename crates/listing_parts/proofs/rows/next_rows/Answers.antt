@@ -1,7 +1,6 @@
 -- `listing_parts::rows::next_rows` has the cursor hand out as many rows as fit both slices, and puts them. Assumes nothing.
-use mathlib.Core.Path.{◌≡◌, refl, ap, ◌∙◌}
-use mathlib.Core.List.{List}
-use Prim.Native.Nat.{ℕ, ◌*◌, ◌/◌, ◌≤◌, min}
+use mathlib.Core.Path.{◌≡◌, refl}
+use Prim.Native.Nat.{ℕ, ◌*◌, ◌/◌, ◌≤◌}
 use native.Mathlib.Nat.{mul-le-mul_right}
 use native.Mathlib.Omega.{arith}
 use lib.ListN.{length}
@@ -9,7 +8,6 @@ use Rattle.definitions.specs.Ranking.{row_width, longest_row}
 use Rattle.search.specs.Frame.{width_most}
 use Rattle.paged_rows.specs.Room.{step_room}
 use Rattle.listing_rows.specs.Taken.{HandedWithin}
-use Rattle.listing_start.specs.declared.Printing.{Printing}
 use Rattle.listing_start.specs.declared.Printing.TheVariants.{Rows}
 use Rattle.listing_parts.specs.Parts.{rows_that_fit, rows_that_fit_some}
 use Rattle.listing_parts.proofs.NextRows.{fits_numbers, fits_bytes, few_handed, next_none, next_put}

@@ -3,7 +3,6 @@ use mathlib.Core.Path.{◌≡◌, sym, ap, refl}
 use Prim.Native.Nat.{ℕ, ◌*◌, ◌≤◌}
 use native.Mathlib.Nat.{mul-le-mul_right}
 use native.Mathlib.Omega.{arith}
-use lib.ListN.{length}
 use lib.Seq.{length-take-le}
 use Rattle.definitions.specs.Ranking.{row_width}
 use Rattle.listing_rows.proofs.TakeRows.{handed_within}

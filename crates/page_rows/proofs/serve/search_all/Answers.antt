@@ -7,29 +7,30 @@ use lib.ListN.{length}
 use Rattle.definitions.specs.Ranking.{row_width}
 use Rattle.page_rows.proofs.SearchLaws as laws
 use Rattle.page_rows.proofs.serve.search_all.Goals as goal
-use Rattle.page_rows.proofs.serve.search_all.Goals.{After-visit-arg-1}
+use Rattle.page_rows.proofs.serve.search_all.Goals.{After-width_of-width}
 
 -- How many rows fit.
-abbrev capacity : After-visit-arg-1 → ℕ
+abbrev capacity : After-width_of-width → ℕ
 capacity c = length c.args.out.now / c.width_of-width.result
 
-capacity_is : (c : After-visit-arg-1) → capacity c ≡ length c.args.out.now / row_width c.args.list
+capacity_is : (c : After-width_of-width) → capacity c ≡ length c.args.out.now / row_width c.args.list
 capacity_is c = ap (λ (w : ℕ). length c.args.out.now / w) c.width_of-width.ensures
 
 -- ---- the rows found have their steps written
-width : (c : After-visit-arg-1) → c.width_of-width.result ≡ row_width c.args.list
+width : (c : After-width_of-width) → c.width_of-width.result ≡ row_width c.args.list
 width c = c.width_of-width.ensures
 
 pub visit-found-requires : goal.visit-found-requires
 visit-found-requires c =
+    let known = (goal.at.visit-found-requires c).After-width_of-width in
     let g = c.args in
     let out = g.out.now in
-    laws.ready g.list g.last out (capacity c) c.requires.0 c.requires.1
-    (laws.fitting_some g.list out (capacity_is c) c.requires.2) (laws.fitting_room g.list out (capacity_is c))
+    laws.ready g.list g.last out (capacity known) c.requires.0 c.requires.1
+    (laws.fitting_some g.list out (capacity_is known) c.requires.2) (laws.fitting_room g.list out (capacity_is known))
 
 pub write_steps-requires : goal.write_steps-requires
 write_steps-requires c =
-    let known = (goal.at.write_steps-requires c).After-visit-arg-1 in
+    let known = (goal.at.write_steps-requires c).After-width_of-width in
     let g = c.args in
     let out = g.out.now in
     let cap = capacity known in
@@ -40,7 +41,7 @@ write_steps-requires c =
 
 pub returns : goal.returns
 returns c =
-    let known = (goal.at.returns c).After-visit-arg-1 in
+    let known = (goal.at.returns c).After-width_of-width in
     let g = c.args in
     laws.searched g.list g.last g.out.now (capacity known) c.requires.0 c.visit-found.ensures (capacity_is known)
     (rw (width known) at c.write_steps.ensures)

@@ -10,7 +10,7 @@ stands_after-requires c =
     (omega arith, omega arith)
 
 pub returns-in-None : goal.returns-in-None
-returns-in-None c = laws.above_open c.args.f _ c.in-None.is
+returns-in-None c = laws.above_open c.args.f.now _ c.in-None.is
 
 pub returns-in-Some : goal.returns-in-Some
-returns-in-Some c = laws.above_last c.args.f _ c.in-Some.is c.stands_after.ensures
+returns-in-Some c = laws.above_last c.args.f.now _ c.in-Some.is c.stands_after.ensures

@@ -7,7 +7,7 @@ use Rattle.search.proofs.offer.keep_row.Goals as goal
 pub find_slot-at-requires : goal.find_slot-at-requires
 find_slot-at-requires c =
     let k = c.requires.0 in
-    let fit = le_trans (mul-le-mul_right (width_of c.args.f) k.few) k.room in
+    let fit = le_trans (mul-le-mul_right (width_of c.args.f.now) k.few) k.room in
     rw c.requires.1 (omega (arith, k.lawful.top.low), fit, k.order)
 
 pub insert_row-requires : goal.insert_row-requires

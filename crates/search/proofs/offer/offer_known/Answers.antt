@@ -12,7 +12,7 @@ is_above-requires c = (c.requires.0.framed, c.requires.1)
 pub returns-then-not-is_above : goal.returns-then-not-is_above
 returns-then-not-is_above c =
     let a = c.args in
-    laws.offer_passed a.f (state_of a.out.now a.t) a.row.now (sym c.is_above.ensures ∙ not-true _ c.if-not-is_above.true-raw)
+    laws.offer_passed a.f.now (state_of a.out.now a.t) a.row.now (sym c.is_above.ensures ∙ not-true _ c.if-not-is_above.true-raw)
 
 pub keep_row-requires : goal.keep_row-requires
 keep_row-requires c = (laws.keeping c.requires.0, c.requires.1)
@@ -23,5 +23,5 @@ overflow_add-result c = omega (arith, c.requires.0.few)
 pub returns : goal.returns
 returns c =
     let a = c.args in
-    laws.offer_counted a.f (state_of a.out.now a.t) a.row.now (sym c.is_above.ensures ∙ not-false _ c.if-not-is_above.false-raw)
+    laws.offer_counted a.f.now (state_of a.out.now a.t) a.row.now (sym c.is_above.ensures ∙ not-false _ c.if-not-is_above.false-raw)
     c.keep_row.ensures

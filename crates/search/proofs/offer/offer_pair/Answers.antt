@@ -14,16 +14,16 @@ use Rattle.search.proofs.offer.offer_pair.Goals.{After-list-1, Else-not-have_ful
 abbrev state : After-list-1 → Search
 state c = state_of c.args.out.now c.args.t
 
-abbrev searching : (c : After-list-1) → Searching c.args.f 1 (state c)
+abbrev searching : (c : After-list-1) → Searching c.args.f.now 1 (state c)
 searching c = c.requires.searching
 
-accepted_pair : (c : Else-not-have_full_orders) → let a = c.args in accepted a.f.list.degree a.p a.q ≡ true
+accepted_pair : (c : Else-not-have_full_orders) → let a = c.args in accepted a.f.now.list.degree a.p a.q ≡ true
 accepted_pair c =
     let a = c.args in
-    laws.pair_accepted a.f (state (goal.at.Else-not-have_full_orders c).After-list-1) a.p a.q (sym c.have_full_orders.ensures ∙ not-false _ c.if-not-have_full_orders.false-raw)
+    laws.pair_accepted a.f.now (state (goal.at.Else-not-have_full_orders c).After-list-1) a.p a.q (sym c.have_full_orders.ensures ∙ not-false _ c.if-not-have_full_orders.false-raw)
     c.requires.q_value
 
-reached : (c : Else-not-reaches_floor) → let a = c.args in reaches_floor a.f.list.degree a.f.list.floor a.p a.q ≡ true
+reached : (c : Else-not-reaches_floor) → let a = c.args in reaches_floor a.f.now.list.degree a.f.now.list.floor a.p a.q ≡ true
 reached c = sym c.reaches_floor.ensures ∙ not-false _ c.if-not-reaches_floor.false-raw
 
 pub have_full_orders-requires : goal.have_full_orders-requires
@@ -32,7 +32,7 @@ have_full_orders-requires c = record { lawful_degree = (searching c).framed.lawf
 pub returns-then-not-have_full_orders : goal.returns-then-not-have_full_orders
 returns-then-not-have_full_orders c =
     let a = c.args in
-    laws.pair_without_orders a.f (state (goal.at.returns-then-not-have_full_orders c).After-list-1) a.p a.q (sym c.have_full_orders.ensures ∙ not-true _ c.if-not-have_full_orders.true-raw)
+    laws.pair_without_orders a.f.now (state (goal.at.returns-then-not-have_full_orders c).After-list-1) a.p a.q (sym c.have_full_orders.ensures ∙ not-true _ c.if-not-have_full_orders.true-raw)
 
 pub reaches_floor-requires : goal.reaches_floor-requires
 reaches_floor-requires c =
@@ -42,7 +42,7 @@ reaches_floor-requires c =
 pub returns-then-not-reaches_floor : goal.returns-then-not-reaches_floor
 returns-then-not-reaches_floor c =
     let a = c.args in
-    laws.pair_below_floor a.f (state (goal.at.returns-then-not-reaches_floor c).After-list-1) a.p a.q (sym c.reaches_floor.ensures ∙ not-true _ c.if-not-reaches_floor.true-raw)
+    laws.pair_below_floor a.f.now (state (goal.at.returns-then-not-reaches_floor c).After-list-1) a.p a.q (sym c.reaches_floor.ensures ∙ not-true _ c.if-not-reaches_floor.true-raw)
 
 pub offer_row-requires : goal.offer_row-requires
 offer_row-requires c = record { searching = searching (goal.at.offer_row-requires c).After-list-1; well_formed = c.requires.well_formed; q_value = accepted_pair (goal.at.offer_row-requires c).Else-not-have_full_orders }
@@ -50,4 +50,4 @@ offer_row-requires c = record { searching = searching (goal.at.offer_row-require
 pub returns : goal.returns
 returns c =
     let a = c.args in
-    laws.pair_offered a.f (state (goal.at.returns c).After-list-1) a.p a.q (accepted_pair (goal.at.returns c).Else-not-have_full_orders) (reached (goal.at.returns c).Else-not-reaches_floor) c.offer_row.ensures
+    laws.pair_offered a.f.now (state (goal.at.returns c).After-list-1) a.p a.q (accepted_pair (goal.at.returns c).Else-not-have_full_orders) (reached (goal.at.returns c).Else-not-reaches_floor) c.offer_row.ensures

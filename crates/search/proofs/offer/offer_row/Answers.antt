@@ -15,7 +15,7 @@ overflow_add-result c = omega (arith, c.requires.searching.few)
 pub write_delta-requires : goal.write_delta-requires
 write_delta-requires c =
     let a = c.args in
-    let valued = laws.open_valued a.f (state_of a.out.now a.t) a.p a.q c.weigh.new.row c.in-Open.ensures refl in
+    let valued = laws.open_valued a.f.now (state_of a.out.now a.t) a.p a.q c.weigh.new.row c.in-Open.ensures refl in
     record { lawful_list = c.requires.searching.framed.lawful; well_formed = c.requires.well_formed; valued = valued }
 
 pub offer_known-requires : goal.offer_known-requires
@@ -24,10 +24,10 @@ offer_known-requires c =
     (c.requires.searching, simp length-take (omega (arith, c.width_of.ensures, c.write_delta.ensures.sized)))
 
 pub returns-in-Low : goal.returns-in-Low
-returns-in-Low c = let a = c.args in laws.low_offered a.f (state_of a.out.now a.t) a.p a.q c.weigh.new.row c.in-Low.ensures refl
+returns-in-Low c = let a = c.args in laws.low_offered a.f.now (state_of a.out.now a.t) a.p a.q c.weigh.new.row c.in-Low.ensures refl
 
 pub returns-in-High : goal.returns-in-High
-returns-in-High c = let a = c.args in laws.high_offered a.f (state_of a.out.now a.t) a.p a.q c.weigh.new.row c.in-High.ensures refl
+returns-in-High c = let a = c.args in laws.high_offered a.f.now (state_of a.out.now a.t) a.p a.q c.weigh.new.row c.in-High.ensures refl
 
 pub returns-in-Open : goal.returns-in-Open
 returns-in-Open c = rw (c.width_of.ensures, c.write_delta.ensures.is) at c.offer_known.ensures

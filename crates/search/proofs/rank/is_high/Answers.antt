@@ -11,10 +11,10 @@ use Rattle.search.proofs.RankLaws as laws
 use Rattle.search.proofs.rank.is_high.Goals as goal
 use Rattle.search.proofs.rank.is_high.Goals.{After-width_of}
 
-full : (c : After-width_of) → c.args.t.kept ≡ c.args.f.capacity
+full : (c : After-width_of) → c.args.t.kept ≡ c.args.f.now.capacity
 full c = c.if-t-f.false
 
-width : (c : After-width_of) → c.width_of.result ≡ width_of c.args.f
+width : (c : After-width_of) → c.width_of.result ≡ width_of c.args.f.now
 width c = c.width_of.ensures
 
 last_row_lem : (c : After-width_of) → (c.args.t.kept - 1) * c.width_of.result + c.width_of.result ≡ c.args.t.kept * c.width_of.result
@@ -28,7 +28,7 @@ inside : (c : After-width_of) → (c.args.t.kept - 1) * c.width_of.result + leng
 inside c = omega (arith, last_row_lem c, fits c, width c, c.requires.1)
 
 pub returns-then-t-f : goal.returns-then-t-f
-returns-then-t-f c = laws.both_no (eqb c.args.t.kept c.args.f.capacity) _ (ne_eqb _ _ c.if-t-f.true)
+returns-then-t-f c = laws.both_no (eqb c.args.t.kept c.args.f.now.capacity) _ (ne_eqb _ _ c.if-t-f.true)
 
 pub overflow_mul-from : goal.overflow_mul-from
 overflow_mul-from c = omega (arith, inside (goal.at.overflow_mul-from c).After-width_of)
@@ -43,4 +43,4 @@ unfolding ranks_of
 returns c =
     let known = (goal.at.returns c).After-width_of in
     let as_long : (c.args.t.kept - 1) * c.width_of.result + length c.args.row.now - (c.args.t.kept - 1) * c.width_of.result ≡ length c.args.row.now = omega arith in
-    laws.both_yes (eqb c.args.t.kept c.args.f.capacity) (eq-eqb _ _ (full known)) (rw (as_long, width known) at c.ranks_before.ensures)
+    laws.both_yes (eqb c.args.t.kept c.args.f.now.capacity) (eq-eqb _ _ (full known)) (rw (as_long, width known) at c.ranks_before.ensures)

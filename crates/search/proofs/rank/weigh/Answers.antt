@@ -16,7 +16,7 @@ use Rattle.search.proofs.rank.weigh.Goals.{After-next_t-value}
 
 -- ---- with coordinate 1: t(2) is 0, since the quotients are linear
 pub add_coordinate-requires-clause-tabled : goal.add_coordinate-requires-clause-tabled
-add_coordinate-requires-clause-tabled c = c.first_coordinate-table.ensures.table c.modulo.result.modulus c.args.q c.args.f.list.degree
+add_coordinate-requires-clause-tabled c = c.first_coordinate-table.ensures.table c.modulo.result.modulus c.args.q c.args.f.now.list.degree
 
 pub loop-s-init : goal.loop-s-init
 loop-s-init c =
@@ -26,7 +26,7 @@ loop-s-init c =
         from = omega arith;
         to = omega (arith, lawful.top.low);
         sized = simp length-set c.requires.row_len;
-        is = begun_first a.f.list a.p a.q a.row.now c.requires.row_len;
+        is = begun_first a.f.now.list a.p a.q a.row.now c.requires.row_len;
         last = sym ((t_value_linear c.requires.well_formed).0 ((accepted_is _ _ _).0 c.requires.q_value).linear);
       },
       rw (c.modulo.ensures.0, c.modulo.ensures.1) at c.add_coordinate.ensures,
@@ -42,10 +42,10 @@ next_t-value-requires-clause-stop c =
 abbrev row : After-next_t-value → List ℕ
 row c = set c.loop-s.row c.loop-s.s c.next_t-value.result
 
-inside : (c : After-next_t-value) → c.loop-s.s < values_end c.args.f.list
+inside : (c : After-next_t-value) → c.loop-s.s < values_end c.args.f.now.list
 inside c = omega (arith, c.values_end-end.ensures)
 
-more : (c : After-next_t-value) → let a = c.args in Written a.f.list a.p a.q (row c) c.next_t-value.result (c.loop-s.s + 1)
+more : (c : After-next_t-value) → let a = c.args in Written a.f.now.list a.p a.q (row c) c.next_t-value.result (c.loop-s.s + 1)
 more c =
     let a = c.args in
     let s = c.loop-s.s in
@@ -53,14 +53,14 @@ more c =
     let known = c.loop-s.invariant.0 in
     let top = c.requires.searching.framed.lawful.top in
     let value = c.next_t-value.ensures.0 in
-    let length-b = begun_length a.f.list a.p a.q top.low in
-    let at-s = value ∙ sym (begun_at a.f.list a.p a.q s known.from i) in
+    let length-b = begun_length a.f.now.list a.p a.q top.low in
+    let at-s = value ∙ sym (begun_at a.f.now.list a.p a.q s known.from i) in
     record {
       from = omega (arith, known.from);
       to = omega arith;
       sized = simp length-set known.sized;
-      is = take_next c.loop-s.row (begun a.f.list a.p a.q) s c.next_t-value.result (omega (arith, i, top.high, known.sized)) (omega arith) known.is at-s;
-      last = value ∙ ap (t_value a.f.list.degree a.p a.q) (sym (add-sub_cancel s 1));
+      is = take_next c.loop-s.row (begun a.f.now.list a.p a.q) s c.next_t-value.result (omega (arith, i, top.high, known.sized)) (omega arith) known.is at-s;
+      last = value ∙ ap (t_value a.f.now.list.degree a.p a.q) (sym (add-sub_cancel s 1));
     }
 
 -- ---- the key is not above the cut
