@@ -1,11 +1,11 @@
 -- A page is refused by the first situation of its request that applies, and else its rows stand in the slice. Assumes nothing.
 use Rattle.std.specs.Prelude.{Result, Ok, Err}
-use mathlib.Core.Path.{◌≡◌, refl, sym, ap, ◌∙◌}
-use mathlib.Core.Bool.{Bool, true, false, not}
+use mathlib.Core.Path.{◌≡◌}
+use mathlib.Core.Bool.{true, false, not}
 use mathlib.Core.List.{List}
 use Prim.Native.Nat.{ℕ, ◌≤◌, ◌<◌}
 use lib.ListN.{length}
-use borrow.Author.Tests.{lt-ltb, le-ltb, not-false, not-true}
+use borrow.Author.Tests.{lt-ltb, le-ltb}
 use Rattle.definitions.specs.Calls.{selection_of, paging, position_situations, page_rows, further_row, page_answer, page_slice}
 use Rattle.definitions.specs.Generator.{lawful_degree, lawful_floor}
 use Rattle.definitions.specs.Ranking.{lawful_top, row_width, cut_of}

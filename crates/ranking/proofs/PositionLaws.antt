@@ -1,10 +1,9 @@
 -- A position is refused as its pair is: the verdict tells which of its situations decides, or that none applies; then it is the start or after a
 -- pair of the list. Assumes nothing.
 use Rattle.std.specs.Prelude.{Result, Ok, Err}
-use mathlib.Core.Path.{◌≡◌, refl, sym, ap, ◌∙◌}
+use mathlib.Core.Path.{◌≡◌, sym}
 use Prim.Native.Nat.{ℕ}
 use native.Mathlib.Omega.{arith}
-use Rattle.definitions.specs.Answers.{unless}
 use Rattle.definitions.specs.Calls.{position_situations}
 use Rattle.definitions.specs.declared.Refusal.{Refusal}
 use Rattle.definitions.specs.declared.Selection.{Selection}

@@ -2,7 +2,7 @@
 use Rattle.std.specs.Prelude.{Ok}
 use Rattle.std.specs.Prelude.{◌≡◌, refl}
 use Rattle.std.proofs.Common.{sym, ◌∙◌}
-use Rattle.definitions.specs.Calls.{counted, uniformity}
+use Rattle.definitions.specs.Calls.{counted}
 use Rattle.recount_line.specs.Printed.{pair_refused, pair_both, quick_given}
 use Rattle.recount_line.proofs.put_pair.Goals as goal
 use Rattle.recount_line.proofs.put_pair.Goals.{In-Ok, After-t_value}

@@ -1,6 +1,6 @@
 -- `page_line::due::put_due` puts the line of a page behind its last row, and nothing behind its other rows. Assumes nothing.
 use mathlib.Core.Path.{◌≡◌}
-use Prim.Native.Nat.{◌/◌, ◌%◌, ◌+◌, ◌<◌}
+use Prim.Native.Nat.{◌/◌, ◌%◌, ◌+◌}
 use native.Mathlib.Nat.{mod-lt, div-le_self}
 use native.Mathlib.Omega.{arith}
 use Rattle.definitions.specs.Listing.{page_text}
