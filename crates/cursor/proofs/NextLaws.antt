@@ -23,7 +23,7 @@ use Rattle.page_laws.specs.Rows.{rows_of, Wide, length_join, rows_back}
 use Rattle.ranking_laws.specs.Met.{width_is}
 use Rattle.ranking_laws.specs.Reading.{after_last, last_row, last_number, page_by, page_wide}
 use Rattle.page_rows.specs.Serve.{Filled, fitting}
-use Rattle.page_rows.specs.declared.serve.Served.{Served}
+use Rattle.definitions.specs.declared.Page.{Page}
 use Rattle.cursor.specs.Left.{left, passed, if_left, OnList, Handed}
 use Rattle.cursor.specs.Passed.{rule_at, page_by_lem, passed_some}
 use Rattle.cursor.specs.Turns.{left_wide}
@@ -48,7 +48,7 @@ cut_at c = cut_of c.list c.position
 abbrev width_at : Cursor → ℕ
 width_at c = row_width c.list
 
-module _ (c : Cursor) {s t : List ℕ} {x : Served} (on : OnList c) (room : width_at c ≤ length s) (f : Filled c.list (cut_at c) s x t) where
+module _ (c : Cursor) {s t : List ℕ} {x : Page} (on : OnList c) (room : width_at c ≤ length s) (f : Filled c.list (cut_at c) s x t) where
   abbrev cap : ℕ
   cap = length s / width_at c
 

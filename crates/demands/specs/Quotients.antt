@@ -15,6 +15,7 @@ use Rattle.definitions.specs.Net.{t_value}
 use Rattle.definitions.specs.Ranking.{lawful_top, row_width}
 use Rattle.definitions.specs.Calls.{pair_situations, judging, judgement, testing, quotient_test, measuring, uniformity, page_request, position_situations, paging}
 use Rattle.definitions.specs.Calls.{page_answer, pointing, points_answer}
+use Rattle.definitions.specs.declared.QuotientDegrees.{QuotientDegrees}
 use Rattle.definitions.specs.declared.Refusal.{Refusal}
 use Rattle.definitions.specs.declared.Refusal.TheVariants.{WrongDegree, WrongDimension, IllFormedPair, NotPrimitive, QuotientNotLinear, StepNotCoprime}
 use Rattle.definitions.specs.declared.Refusal.TheVariants.{ShortSlice, BeyondPeriod, IllFormedCatalogue, DegreeMissing, NotAscending, FileTooLong}
@@ -23,6 +24,7 @@ use Rattle.definitions.specs.declared.Selection.{Selection}
 use Rattle.definitions.specs.declared.Position.TheVariants.{Start, After}
 use Rattle.number_laws.specs.Bounds.{LawfulDegree, lawful_degree_is}
 use Rattle.number_laws.specs.Truth.{truth_false}
+use Rattle.answer_laws.specs.Given.{same_value}
 use Rattle.answer_laws.specs.Unless.{Decides, here, later, NoneApplies, passes, at_end, Outcome, is_refused, is_given, outcome, decides_none}
 use Rattle.answer_laws.specs.Unless.{unless_refused, unless_given, unless_both, told_given}
 use Rattle.polynomial_laws.specs.Degree.{positive}
@@ -64,9 +66,9 @@ module _ (m p q : ℕ) where
       to : quotient_test m p q ≡ Ok (record { quotient = k; common = c }) → Tested m p q k c
       to e =
           let t = told_given (testing m p q) e (λ r d. let z : ◌≡◌ {A = ℕ} 0 1 = cc in omega arith) in
-          let same = t.1 in
-          let k-is : quotient_degree p q ≡ k = cc in
-          let c-is : common_degree p q ≡ c = cc in
+          let same = same_value t.1 in
+          let k-is : quotient_degree p q ≡ k = ap (λ (d : QuotientDegrees). d.quotient) same in
+          let c-is : common_degree p q ≡ c = ap (λ (d : QuotientDegrees). d.common) same in
           let formed = passes_testing t.0 in
           record {
             lawful = formed.0;

@@ -41,7 +41,7 @@ use Rattle.search.specs.declared.frame.Tally.{Tally}
 use Rattle.row_steps.specs.Written.{written}
 use Rattle.slice_laws.specs.Over.{length_over, over_again}
 use Rattle.page_rows.specs.Serve.{Filled}
-use Rattle.page_rows.specs.declared.serve.Served.{Served}
+use Rattle.definitions.specs.declared.Page.{Page}
 
 -- ---- the walk from the root
 
@@ -167,7 +167,7 @@ module _ (l : Selection) (s : List ℕ) {cap : ℕ} (full : cap ≡ length s / r
 
 -- ---- the row at the position
 
-module _ (l : Selection) {at : Position} {s t : List ℕ} {r : Served} where
+module _ (l : Selection) {at : Position} {s t : List ℕ} {r : Page} where
   pub filled_start : at ≡ Start → Filled l start s r t → Filled l (cut_of l at) s r t
   unfolding cut_of
   filled_start e f = rw e f

@@ -6,43 +6,36 @@ ghost use Rattle.ranking_laws.specs.Reading.{ListedPosition};
 ghost use Rattle.search.specs.Frame.{LawfulList, Lent, cut_after};
 ghost use Rattle.page_rows.specs.Serve.{Filled};
 
-use definitions::{Position, Selection};
+use definitions::{Page, Position, Selection};
 use limits::LONGEST_ROW;
 use row_places::width_of;
 use row_steps::write_steps;
 use search::frame::{Frame, Tally};
 use search::{rank, walk};
 
-// How many rows were written, and whether a further row exists.
-#[derive(Clone, Copy)]
-pub struct Served {
-    pub rows: usize,
-    pub further: bool,
-}
-
 // Walks down the tree from its root, and then writes the steps of the rows kept. The slice must hold a row; it is the only room that the search needs.
-fn search_all(list: Selection, last: Option<&[u32]>, out: &mut [u32]) -> Served
+fn search_all(list: Selection, last: Option<&[u32]>, out: &mut [u32]) -> Page
     requires { LawfulList list × Lent list last × (row_width list ≤ length out.old) }
     ensures { Filled list (cut_after last.entry) out.old result out.new }
 {
     let width = width_of(list);
     let capacity = out.len() / width;
     let frame = Frame {
-        list: list,
-        capacity: capacity,
-        last: last,
+        list,
+        capacity,
+        last,
     };
     let none = Tally { kept: 0, count: 0 };
     let found = walk::visit(list.degree, 1, 0, out, none, &frame);
     write_steps(list.degree, width, found.kept, out);
-    Served {
+    Page {
         rows: found.kept,
         further: capacity < found.count,
     }
 }
 
 // Writes the rows above the position over the front of `out`, as many as fit.
-pub fn fill(list: Selection, position: Position, out: &mut [u32]) -> Served
+pub fn fill(list: Selection, position: Position, out: &mut [u32]) -> Page
     requires { LawfulList list × ListedPosition (rule_of list) position × (row_width list ≤ length out.old) }
     ensures { Filled list (cut_of list position) out.old result out.new }
 {

@@ -17,7 +17,6 @@ use Rattle.answer_laws.specs.Unless.{Decides, here, later, NoneApplies, passes, 
 use Rattle.answer_laws.specs.Together.{answered_refused, answered_given}
 use Rattle.answer_laws.specs.Lent.{answers_page}
 use Rattle.page_rows.specs.Serve.{Filled}
-use Rattle.page_rows.specs.declared.serve.Served.{Served}
 
 module _ (r : PageRequest) (s : List ℕ) where
   -- What is answered, and what the slice holds then.
@@ -59,7 +58,9 @@ module _ (r : PageRequest) (s : List ℕ) where
               let floor : not (lawful_floor r.floor) ≡ false = rw f in
               passes degree (passes top (passes floor (none_append p (passes (le-ltb _ _ h) at_end))))
 
-          pub page_filled : row_width (selection_of r) ≤ length s → {x : Served} {o : List ℕ}
-              → Filled (selection_of r) (cut_of (selection_of r) r.position) s x o → Done (Ok (record { rows = x.rows; further = x.further })) o
+          pub page_filled : row_width (selection_of r) ≤ length s → {x : Page} {o : List ℕ}
+              → Filled (selection_of r) (cut_of (selection_of r) r.position) s x o → Done (Ok x) o
           unfolding page_rows further_row
-          page_filled h x = rw (x.count, x.further, x.written) (answers_page r s (answered_given (none_applies h)))
+          page_filled h {x} {o} f =
+              let done : Done (Ok (record { rows = x.rows; further = x.further })) o =
+              rw (f.count, f.further, f.written) (answers_page r s (answered_given (none_applies h))) in done

@@ -49,9 +49,5 @@ pub fn page(request: PageRequest, out: &mut [u32]) -> Result<Page, Refusal>
     if out.len() < width_of(list) {
         return Err(Refusal::ShortSlice);
     }
-    let filled = serve::fill(list, position, out);
-    Ok(Page {
-        rows: filled.rows,
-        further: filled.further,
-    })
+    Ok(serve::fill(list, position, out))
 }

@@ -61,10 +61,10 @@ returns-then-out-width_of c =
     let none = position_passes g.request.degree g.request.floor g.request.position (passed (goal.at.returns-then-out-width_of c).In_ok-check_position) in
     let all = laws.short_slice g.request g.out.now (degree_lawful known) (top_lawful known) (floor_lawful (goal.at.returns-then-out-width_of c).Else-not-is_lawful_floor) none (omega (arith, c.width_of.ensures)) in record { answer = all.0; slice = all.1 }
 
-pub fill-filled-requires : goal.fill-filled-requires
-fill-filled-requires c =
+pub fill-requires : goal.fill-requires
+fill-requires c =
     let r = c.args.request in
-    (list_lawful (goal.at.fill-filled-requires c).Else-not-is_lawful_floor, position_listed (selection_of r) r.position (passed (goal.at.fill-filled-requires c).In_ok-check_position), omega (arith, c.width_of.ensures))
+    (list_lawful (goal.at.fill-requires c).Else-not-is_lawful_floor, position_listed (selection_of r) r.position (passed (goal.at.fill-requires c).In_ok-check_position), omega (arith, c.width_of.ensures))
 
 pub returns-in_err-check_position : goal.returns-in_err-check_position
 returns-in_err-check_position c =
@@ -81,4 +81,4 @@ returns c =
     let g = c.args in
     let none = position_passes g.request.degree g.request.floor g.request.position (passed (goal.at.returns c).In_ok-check_position) in
     let all = laws.page_filled g.request g.out.now (degree_lawful known) (top_lawful known) (floor_lawful (goal.at.returns c).Else-not-is_lawful_floor) none
-    (omega (arith, c.width_of.ensures)) c.fill-filled.ensures in record { answer = all.0; slice = all.1 }
+    (omega (arith, c.width_of.ensures)) c.fill.ensures in record { answer = all.0; slice = all.1 }
