@@ -10,6 +10,7 @@ use catalogue_numbers::write_number;
 use definitions::Selection;
 
 // The degree, T with the kind, the row count and the place of the body.
+// File and place, not a slice: the contract says what is written over the file there.
 pub fn write_entry(file: &mut [u8], at: usize, list: Selection, rows: u32, offset: u32)
     requires lawful_degree { LawfulDegree list.degree × LawfulTop list.top }
     requires degree_in_bounds { at + entry_size list.degree ≤ length file.old }

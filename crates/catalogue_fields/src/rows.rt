@@ -28,6 +28,7 @@ fn write_row(file: &mut [u8], at: usize, list: Selection, row: &[u32])
 }
 
 // The first `count` rows of a slice, one behind the other.
+// File and place, not a slice: the contract says what is written over the file there.
 pub fn write_rows(file: &mut [u8], at: usize, list: Selection, rows: &[u32], count: usize)
     requires lawful_degree { LawfulDegree list.degree × LawfulTop list.top }
     requires list_in_bounds { count * row_width list ≤ length rows.now }

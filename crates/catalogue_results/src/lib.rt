@@ -1,4 +1,5 @@
 // Answers about catalogues as structs that C takes by value: an opening, a degree's body, a file that was written.
+// A number of the refusal beside the values, and structs alike: the C interface has them so.
 #![tactic(auto)]
 
 ghost use Rattle.std.specs.Prelude.{◌≡◌};

@@ -12,6 +12,7 @@ use definitions::Row;
 
 // The row at a place of a body, p with its leading term, or the end.
 #[tactic(auto, unfolding(definitions::specs::Catalogue::next_row, definitions::specs::Catalogue::at_row))]
+// Degree, T and kind by themselves: they come unchecked, from C too, so they are no form of a body yet.
 pub fn row_at(body: &[u8], degree: u32, top: u32, gaps: bool, place: usize) -> Option<Row>
     ensures { result ≡ next_row degree top gaps body.now place }
 {

@@ -1,11 +1,13 @@
 -- Decimal digits one at a time: the last digit stands behind those of a tenth of the number.
 -- `decimal_within` is the same for every bound that is large enough, since a tenth is smaller than the number.
 -- Assumes nothing.
-use Rattle.std.specs.Prelude.{◌≡◌, refl, Bool, true, false, List, [], ◌∷◌, ◌++◌, ℕ, zero, suc, ◌+◌, ◌/◌, ◌%◌, ◌^◌, ◌≤◌, ◌<◌, ltb, length}
+use Rattle.std.specs.Prelude.{◌≡◌, refl, Bool, true, false, List, [], ◌∷◌, ◌++◌, ℕ, zero, suc, ◌+◌, ◌-◌, ◌/◌, ◌%◌, ◌^◌, ◌≤◌, ◌<◌, ltb, length, set}
 use Rattle.std.proofs.Common.{sym, ap, ◌∙◌, pow-suc, arith, length-append, lt-ltb, le-ltb, ltb-true, ltb-false}
 use Rattle.std.specs.Fmt.{decimal as std_decimal}
 use Rattle.std.proofs.lemmas.Fmt.{decimal_by_steps}
+use Rattle.definitions.specs.Number.{over}
 use Rattle.definitions.specs.Listing.{digit_zero, decimal, decimal_within}
+use Rattle.slice_laws.specs.Over.{over_one, over_last}
 
 -- Two bounds that are large enough.
 decimal_bound : (i j n : ℕ) → n < i → n < j → decimal_within i n ≡ decimal_within j n
@@ -73,3 +75,14 @@ printed n h =
     (λ n h. sym (decimal_digit n h))
     (λ n ds h e. ap (λ (l : List ℕ). l ++ (digit_zero + n % 10) ∷ []) e ∙ sym (decimal_more n h))
     n (omega arith)
+
+-- The digits of n over what stands at a place, the last digit first.
+pub decimal_turn : (at end n : ℕ) (out : List ℕ) → 10 ≤ n → end ≡ at + length (decimal n) → at + length (decimal n) ≤ length out
+    → over at (decimal (n / 10)) (set out (end - 1) (digit_zero + n % 10)) ≡ over at (decimal n) out
+decimal_turn at end n out h e k =
+    let fewer = decimal_length_more n h in
+    let place : end - 1 ≡ at + length (decimal (n / 10)) = omega arith in
+    rw (place, decimal_more n h) (over_last at (decimal (n / 10)) (digit_zero + n % 10) out (omega arith))
+
+pub decimal_last : (at n : ℕ) (out : List ℕ) → n < 10 → at < length out → set out at (digit_zero + n) ≡ over at (decimal n) out
+decimal_last at n out h k = rw (decimal_digit n h) (over_one at (digit_zero + n) out k)

@@ -1,9 +1,7 @@
-// Texts over what stands in a buffer, and whether they fit. What writes asks that its text fits, and answers the place behind it; what puts writes
-// nothing where it does not fit, and answers the place itself.
+// Texts and digits over what stands in a buffer, and whether they fit. What writes asks that they fit, and answers the place behind them.
 ghost use Rattle.std.specs.Prelude.{◌≡◌, ◌+◌, ◌≤◌, leb, length};
 ghost use Rattle.definitions.specs.Number.{over};
 ghost use Rattle.definitions.specs.Listing.{decimal};
-ghost use Rattle.slice_laws.specs.Place.{placed, behind};
 
 use itoa::Buffer;
 
@@ -23,18 +21,6 @@ pub fn write_text(out: &mut [u8], at: usize, text: &[u8]) -> usize
     let end = at + text.len();
     out[at..end].copy_from_slice(text);
     end
-}
-
-// The same where it fits.
-pub fn put_text(out: &mut [u8], at: usize, text: &[u8]) -> usize
-    ensures value { result ≡ behind at text.now out.old }
-    ensures out_after { out.new ≡ placed at text.now out.old }
-{
-    if fits(out, at, text.len()) {
-        write_text(out, at, text)
-    } else {
-        at
-    }
 }
 
 // How many decimal digits n has.

@@ -1,5 +1,6 @@
 // The figures of a pair, its t-value and Δ, as a struct that C takes by value: the refusal's number, 0 where there is none, and the figure, 0 where there is
 // none.
+// A number of the refusal beside the values, and structs alike: the C interface has them so.
 #![tactic(auto)]
 
 ghost use Rattle.std.specs.Prelude.{◌≡◌};

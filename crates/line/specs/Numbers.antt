@@ -1,14 +1,15 @@
 -- The numbers of a line word by word: none where a word is no number, or where there are more words than numbers are wanted.
 -- By the words: these are the numbers of the line, where it has at most so many.
 -- Assumes nothing.
-use Rattle.std.specs.Prelude.{◌≡◌, refl, Option, Some, None, Bool, true, false, List, [], ◌∷◌, map, ℕ, zero, suc, ◌≤◌, ◌<◌, leb, length}
-use Rattle.std.proofs.Common.{sym, ap, ◌∙◌, arith, le-leb, leb-true, leb-false}
+use Rattle.std.specs.Prelude.{◌≡◌, refl, Option, Some, None, Bool, true, false, List, [], ◌∷◌, map, ℕ, zero, suc, ◌+◌, ◌≤◌, ◌<◌, leb, length}
+use Rattle.std.proofs.Common.{sym, ap, ◌∙◌, arith, length-drop, drop-drop, le-leb, leb-true, leb-false}
 use Rattle.std.proofs.Math.ListN.{drop}
 use Rattle.std.proofs.lemmas.List.{length-map}
+use Rattle.std.proofs.Math.Seq.{slice}
 use Rattle.std.proofs.lemmas.Bool.{lt-leb}
 use Rattle.definitions.specs.Number.{all}
 use Rattle.definitions.specs.Listing.{space, line_of, words_of, is_number, decimal_from, line_numbers, numbers_within}
-use Rattle.line.specs.Part.{up_to}
+use Rattle.line.specs.Part.{up_to, up_to_short, part_up_to}
 use Rattle.line.specs.Word.{other_words, words_first, words_last, words_more, word_of, word_number, word_none}
 
 -- A number before the others of its line; none where there are no others.
@@ -22,6 +23,10 @@ numbers_of zero ws = []
 numbers_of (suc k) [] = []
 numbers_of (suc k) (w ∷ []) = elim (is_number w) [ true ↦ decimal_from 0 w ∷ [] | false ↦ [] ]
 numbers_of (suc k) (w ∷ x ∷ ws) = elim (is_number w) [ true ↦ before_others (decimal_from 0 w) (numbers_of k (x ∷ ws)) | false ↦ [] ]
+
+-- Those of a line from a place on.
+abbrev pub numbers_from : List ℕ → ℕ → ℕ → List ℕ
+numbers_from line from k = numbers_of k (words_of (drop from line))
 
 -- How many numbers a line has, where it can be read.
 abbrev pub count_of : List ℕ → Option ℕ
@@ -134,3 +139,30 @@ module _ (k : ℕ) (l : List ℕ) where
         let number = word_number (up_to space l) v e in
         let others = drop (suc (length (up_to space l))) l in
         rw (words_first l, words_more l h, words_first others, number.0, numbers_of, number.1)
+
+-- The same by the word at a place of the line.
+module _ (line : List ℕ) (from : ℕ) (h : from ≤ length line) {end : ℕ} (e : end ≡ from + length (up_to space (drop from line))) where
+  pub word_within : (from ≤ end) × (end ≤ length line)
+  word_within = (omega arith, omega (arith, up_to_short space (drop from line), length-drop from line))
+
+  -- With k + 1 numbers wanted.
+  module _ (k : ℕ) {wanted : ℕ} (some : wanted ≡ suc k) {w : Option ℕ} (r : w ≡ word_of (slice from end line)) where
+    word_at : w ≡ word_of (up_to space (drop from line))
+    word_at = r ∙ rw e (ap word_of (part_up_to space line from h))
+
+    pub place_none : w ≡ None → numbers_from line from wanted ≡ []
+    place_none f = rw some (numbers_none k (drop from line) (sym word_at ∙ f))
+
+    pub place_last : {v : ℕ} → w ≡ Some v → length line ≤ end → numbers_from line from wanted ≡ v ∷ []
+    place_last f last =
+        let inside = word_within in
+        rw some (numbers_last k (drop from line) (sym word_at ∙ f) (rw (length-drop from line) (omega arith)))
+
+    pub place_more : {v : ℕ} → w ≡ Some v → end < length line
+        → numbers_from line from wanted ≡ before_others v (numbers_from line (end + 1) k)
+    place_more {v} f more =
+        let word = length (up_to space (drop from line)) in
+        let place : from + suc word ≡ end + 1 = omega arith in
+        let rest : drop (suc word) (drop from line) ≡ drop (end + 1) line = drop-drop (suc word) from line ∙ ap (λ (n : ℕ). drop n line) place in
+        rw some (numbers_more k (drop from line) (sym word_at ∙ f) (rw (length-drop from line) (omega arith)))
+        ∙ ap (λ (s : List ℕ). before_others v (numbers_of k (words_of s))) rest

@@ -1,7 +1,10 @@
 -- The part of a text up to the first such byte, byte by byte; a line is the part up to the first newline, a word the part up to the first space.
 -- Assumes nothing.
-use Rattle.std.specs.Prelude.{◌≡◌, refl, Bool, true, false, List, [], ◌∷◌, ℕ, suc, ◌≤◌, eqb, length, take}
-use Rattle.std.proofs.Common.{sym, ap, arith, ltb, ltb-false}
+use Rattle.std.specs.Prelude.{◌≡◌, refl, Bool, true, false, List, [], ◌∷◌, ℕ, suc, ◌+◌, ◌≤◌, ◌<◌, eqb, length, take, drop, get_or}
+use Rattle.std.proofs.Common.{sym, ap, ◌∙◌, arith, ltb, ltb-false, drop_of_length-le, drop-cons, drop_at, take-add, length-take-le}
+use Rattle.std.proofs.Math.Numerals.{add-one}
+use Rattle.std.proofs.Math.Seq.{slice}
+use borrow.Author.Tests.{eq-eqb, ne_eqb}
 use Rattle.std.specs.List.{position, position_or_len}
 use Rattle.std.specs.Option.{unwrap_or}
 use Rattle.definitions.specs.Listing.{newline, line_of}
@@ -58,3 +61,27 @@ up_to_place b s = go (ltb (position_or_len (λ x. eqb x b) s) (length s)) refl
 -- The line is the part of the input up to the first newline.
 pub line_part : (s : List ℕ) → take (length (up_to newline s)) s ≡ line_of s
 line_part s = rw (line_up_to s) (up_to_take newline s)
+
+pub line_part_length : (s : List ℕ) {end : ℕ} → end ≡ 0 + length (up_to newline s) → end ≡ length (take end s)
+line_part_length s {end} e = sym (length-take-le end s (omega (arith, up_to_short newline s)))
+
+-- What stands before the first such byte from a place on.
+module _ (b : ℕ) (s : List ℕ) (i : ℕ) where
+  pub up_to_found : i < length s → get_or s i 0 ≡ b → up_to b (drop i s) ≡ []
+  unfolding up_to
+  up_to_found h e = rw (drop-cons s i 0 h, eq-eqb (get_or s i 0) b e, up_to)
+
+  pub up_to_more : i < length s → (get_or s i 0 ≡ b → ⊥) → length (up_to b (drop i s)) ≡ suc (length (up_to b (drop (i + 1) s)))
+  unfolding up_to
+  up_to_more h e = rw (drop-cons s i 0 h, ne_eqb (get_or s i 0) b e, up_to, add-one i)
+
+  pub up_to_end : length s ≤ i → up_to b (drop i s) ≡ []
+  unfolding up_to
+  up_to_end h = rw (drop_of_length-le s h)
+
+-- The part of a text from a place up to the next such byte.
+pub part_up_to : (b : ℕ) (s : List ℕ) (from : ℕ) → from ≤ length s
+    → slice from (from + length (up_to b (drop from s))) s ≡ up_to b (drop from s)
+part_up_to b s from h =
+    rw (take-add from (length (up_to b (drop from s))) s)
+    (drop_at (take from s) (take (length (up_to b (drop from s))) (drop from s)) from (length-take-le from s h) ∙ up_to_take b (drop from s))

@@ -5,9 +5,10 @@ use Rattle.std.specs.Prelude.{◌≡◌, refl, Option, Some, None, Bool, true, f
 use Rattle.std.proofs.Math.Path.{sym}
 use Rattle.std.proofs.Common.{drop-cons, pow-suc, lt_of_lt_of_le, add-one, arith}
 use Rattle.std.proofs.Math.Nat.{pow-le-pow_right}
+use Rattle.std.proofs.Math.Seq.{slice, slice-cons}
 use borrow.Author.Tests.{le-leb, lt-leb}
 use Rattle.definitions.specs.Number.{all}
-use Rattle.definitions.specs.Listing.{space, words_of, digit_zero, most_digits, is_digit, is_number, decimal_from}
+use Rattle.definitions.specs.Listing.{space, words_of, digit_zero, digit_nine, most_digits, is_digit, is_number, decimal_from}
 use Rattle.line.specs.Part.{up_to}
 
 -- The words behind the first one.
@@ -96,6 +97,31 @@ module _ (w : List ℕ) (i n : ℕ) (h : i < length w) where
       → digits_from (n * 10 + (get_or w i 0 - digit_zero)) (drop (i + 1) w) ≡ digits_from n (drop i w)
   unfolding digits_from all decimal_from
   digit_more e = rw (add-one i, drop-cons w i 0 h) (sym (rw (digits_from, e)))
+
+module _ (n b : ℕ) (w : List ℕ) where
+  digits_low : b < digit_zero → digits_from n (b ∷ w) ≡ None
+  unfolding digits_from all
+  digits_low h = rw (digits_from, lt-leb digit_zero b h)
+
+  digits_high : digit_zero ≤ b → digit_nine < b → digits_from n (b ∷ w) ≡ None
+  unfolding digits_from all
+  digits_high k h = rw (digits_from, le-leb digit_zero b k, lt-leb b digit_nine h)
+
+  digits_more : digit_zero ≤ b → b ≤ digit_nine → digits_from (n * 10 + (b - digit_zero)) w ≡ digits_from n (b ∷ w)
+  unfolding digits_from all decimal_from
+  digits_more k h = sym (rw (digits_from, le-leb digit_zero b k, le-leb b digit_nine h))
+
+-- The same of the byte at a place of a part.
+module _ (s : List ℕ) (to i n : ℕ) (h : i < to) (k : to ≤ length s) where
+  pub part_low : get_or s i 0 < digit_zero → digits_from n (slice i to s) ≡ None
+  part_low b = rw (slice-cons i to s 0 h k) (digits_low n (get_or s i 0) (slice (suc i) to s) b)
+
+  pub part_high : digit_zero ≤ get_or s i 0 → digit_nine < get_or s i 0 → digits_from n (slice i to s) ≡ None
+  part_high b d = rw (slice-cons i to s 0 h k) (digits_high n (get_or s i 0) (slice (suc i) to s) b d)
+
+  pub part_more : digit_zero ≤ get_or s i 0 → get_or s i 0 ≤ digit_nine
+      → digits_from (n * 10 + (get_or s i 0 - digit_zero)) (slice (i + 1) to s) ≡ digits_from n (slice i to s)
+  part_more b d = rw (slice-cons i to s 0 h k, add-one i) (digits_more n (get_or s i 0) (slice (suc i) to s) b d)
 
 -- A number of k digits stays below 10^k, and one that a digit can still follow below 10^8.
 pub one_digit_more : (n b k : ℕ) → n < 10 ^ k → b ≤ 9 → n * 10 + b < 10 ^ suc k

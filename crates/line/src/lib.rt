@@ -12,6 +12,7 @@ use word::{find, read_word};
 
 // The numbers of a line, at most as many as the slice holds, and how many they are; 0 and nothing written where the line cannot be read or
 // has more. What follows a newline is not read.
+// 0 stands for a line that cannot be read: so promised, and a line that can be read has a number.
 pub fn read_numbers(input: &[u8], out: &mut [u32]) -> usize
     ensures value { result ≡ length (numbers_within (length out.old) input.now) }
     ensures out_after { out.new ≡ over 0 (numbers_within (length out.old) input.now) out.old }

@@ -1,5 +1,6 @@
 // What judging and the quotient test answer, as a struct that C takes by value: the refusal's number, 0 where there is none; `quotient_degree` of a judgement, the K
 // that refusal 5 carries, 0 for any other; and the answer's values, 0 where it has none.
+// A number of the refusal beside the values, and structs alike: the C interface has them so.
 #![tactic(auto)]
 
 ghost use Rattle.std.specs.Prelude.{◌≡◌};

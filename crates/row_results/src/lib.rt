@@ -48,6 +48,7 @@ pub fn page_row(found: Row, top: u32, gaps: bool) -> [u32; limits::LONGEST_ROW]
     ]
 }
 
+// No `From`: T, the kind and the place come beside the row.
 pub fn row(answer: Option<Row>, top: u32, gaps: bool, next: usize) -> FenyurkaRow
     ensures { result ≡ row_result (next_row_values answer) top gaps next }
 {

@@ -36,6 +36,7 @@ pub fn read_line<R: Read>(reader: &mut R, input: &mut [u8]) -> io::Result<usize>
 }
 
 // Writes the first n bytes to a stream.
+// A buffer and a count: the contract is of both, and so is the edit `whole_buffer`.
 pub fn write_front<W: Write>(stream: &mut W, bytes: &[u8], n: usize) -> io::Result<()>
     requires { n ≤ length bytes.now }
     ensures { OnOk result (Appends (W.contents stream.old) (W.contents stream.new) (take n bytes.now)) }

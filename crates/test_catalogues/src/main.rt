@@ -30,7 +30,8 @@ fn answers<W: Write>(output: &mut W, file: &[u8], degree: u32) -> io::Result<()>
 
 // The value of a hexadecimal digit.
 fn digit(byte: u8) -> u8 {
-    char::from(byte).to_digit(16).unwrap_or(0) as u8
+    // By hand: it reads a byte that is no digit too, where `to_digit` has none.
+    byte % 16 + byte / 64 * 9
 }
 
 // The bytes that the digits of a line are, in place: each byte takes its two digits one after the other, and what it was before is shifted out.
