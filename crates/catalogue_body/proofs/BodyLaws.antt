@@ -1,8 +1,7 @@
 -- A body written portion by portion: the rows that were handed out stand as bytes at the body's place, and with those that are left they are the
 -- ranked list. A portion's bytes go behind those written; where no row is left, the body is written. Assumes nothing.
 use mathlib.Core.Path.{◌≡◌, refl, sym, ap, ap₂, ◌∙◌, subst}
-use Rattle.std.specs.Prelude.{Option, Some, None}
-use mathlib.Core.Bool.{Bool}
+use mathlib.Core.Bool.{Bool, true, false, true≢false}
 use mathlib.Core.List.{List, [], ◌++◌, map, map-append}
 use Prim.Native.Nat.{ℕ, ◌+◌, ◌*◌, ◌^◌, ◌<◌, ◌≤◌}
 use native.Mathlib.Nat.{add-mul, mul-le-mul_right}
@@ -21,8 +20,8 @@ use Rattle.catalogue_laws.specs.Written.{LawfulRow, LawfulRows, rows_length}
 use Rattle.writing_laws.specs.Few.{ranked_count_fits}
 use Rattle.writing_laws.specs.Fields.{ranked_lawful}
 use Rattle.search.specs.Frame.{LawfulList}
-use Rattle.cursor.specs.Left.{start_of, Handed}
-use Rattle.cursor.specs.Turns.{ReadsTo, left_at, whole_at, start_reads, next_reads, portion, portion_length, portion_back}
+use Rattle.cursor.specs.Left.{left, start_of, Handed}
+use Rattle.cursor.specs.Turns.{Reads, start_reads, next_reads, none_left, portion, portion_length, portion_back, reads_end}
 use Rattle.cursor.specs.declared.reading.Cursor.{Cursor}
 use Rattle.cursor.specs.declared.reading.Portion.{Portion}
 
@@ -47,56 +46,49 @@ bytes l rows = join (map (row_bytes l.degree) rows)
 bytes_append : (l : Selection) (a b : List (List ℕ)) → bytes l (a ++ b) ≡ bytes l a ++ bytes l b
 bytes_append l a b = ap join (map-append (row_bytes l.degree) a b) ∙ join_append (map (row_bytes l.degree) a) (map (row_bytes l.degree) b)
 
--- Between turns: so many rows were written at the place, the cursor, if any, stands behind them; the buffer, s at first, is t now.
-pub record Underway (l : Selection) (s : List ℕ) (at : ℕ) (next : Option Cursor) (done : ℕ) (t : List ℕ) : Type 0 where
+-- Between turns: so many rows were written at the place, the cursor stands behind them; the buffer, s at first, is t now.
+pub record Underway (l : Selection) (s : List ℕ) (at : ℕ) (more : Bool) (done : ℕ) (c : Cursor) (t : List ℕ) : Type 0 where
   pub rows : List (List ℕ)
-  pub reads : ReadsTo l rows next
+  pub reads : Reads l rows c
   pub count : length rows ≡ done
   pub file : t ≡ over at (bytes l rows) s
+  pub ends : more ≡ false → left c ≡ []
 
-pub underway_start : (l : Selection) (s : List ℕ) (at : ℕ) → LawfulList l → Underway l s at (Some (start_of l)) 0 s
+pub underway_start : (l : Selection) (s : List ℕ) (at : ℕ) → LawfulList l → Underway l s at true 0 (start_of l) s
 underway_start l s at lawful = record {
   rows = [];
   reads = start_reads l lawful;
   count = refl;
   file = sym (over_nothing at s);
+  ends = λ e. absurd (true≢false e);
 }
 
 module _ (l : Selection) (lawful : LawfulList l) (s : List ℕ) (at : ℕ) (room : at + length (ranked l) * size_of l ≤ length s) where
   bytes_length : (rows : List (List ℕ)) → LawfulRows l.degree l.top l.gaps rows → length (bytes l rows) ≡ length rows * size_of l
   bytes_length rows h = rows_length l.degree l.top l.gaps lawful.top.low rows h
 
-  -- Nothing is left: the body is written.
-  module _ {done : ℕ} {t : List ℕ} (u : Underway l s at None done t) where
-    pub all_counted : done ≡ length (ranked l)
-    all_counted = sym u.count ∙ ap length u.reads
+  module _ {more : Bool} {done : ℕ} {c : Cursor} {t : List ℕ} (u : Underway l s at more done c t) where
+    -- Nothing is left: the body is written.
+    pub all_counted : more ≡ false → done ≡ length (ranked l)
+    all_counted e = sym u.count ∙ ap length (reads_end u.reads (u.ends e))
 
-    pub all_written : t ≡ over at (body_bytes (ranked_list l)) s
+    pub all_written : more ≡ false → t ≡ over at (body_bytes (ranked_list l)) s
     unfolding body_bytes ranked_list
-    all_written = u.file ∙ ap (λ (rows : List (List ℕ)). over at (bytes l rows) s) u.reads
+    all_written e = u.file ∙ ap (λ (rows : List (List ℕ)). over at (bytes l rows) s) (reads_end u.reads (u.ends e))
 
-  module _ {next : Option Cursor} {done : ℕ} {t : List ℕ} (u : Underway l s at next done t) where
-    whole : u.rows ++ left_at next ≡ ranked l
-    whole = whole_at l u.rows next u.reads
-
-    all_lawful : LawfulRows l.degree l.top l.gaps (u.rows ++ left_at next)
-    all_lawful = subst (LawfulRows l.degree l.top l.gaps) (sym whole) (ranked_lawful l lawful.degree lawful.top)
-
-    written_length : length (bytes l u.rows) ≡ done * size_of l
-    written_length =
-        bytes_length u.rows (lawful_first l.degree l.top l.gaps u.rows (left_at next) all_lawful) ∙ ap (λ (n : ℕ). n * size_of l) u.count
+    all_lawful : LawfulRows l.degree l.top l.gaps (u.rows ++ left c)
+    all_lawful = subst (LawfulRows l.degree l.top l.gaps) (sym u.reads.whole) (ranked_lawful l lawful.degree lawful.top)
 
     long : at + length (bytes l u.rows) ≤ length s
     long =
-        let size = written_length in
-        let all = ap length whole in
-        let most = mul-le-mul_right {m = done} {n = length (ranked l)} (size_of l) (omega (arith, u.count, length-append u.rows (left_at next))) in
+        let size = bytes_length u.rows (lawful_first l.degree l.top l.gaps u.rows (left c) all_lawful) in
+        let whole = ap length u.reads.whole in
+        let most = mul-le-mul_right {m = length u.rows} {n = length (ranked l)} (size_of l) (omega (arith, length-append u.rows (left c))) in
         omega arith
 
     pub length_kept : length t ≡ length s
     length_kept = ap length u.file ∙ length_over at (bytes l u.rows) s long
 
-  module _ {c : Cursor} {done : ℕ} {t : List ℕ} (u : Underway l s at (Some c) done t) where
     -- A portion is handed out, the slice of rows being x at first and y now.
     module _ {x y : List ℕ} {r : Portion} (h : Handed c x r y) where
       abbrev handed : List (List ℕ)
@@ -105,12 +97,12 @@ module _ (l : Selection) (lawful : LawfulList l) (s : List ℕ) (at : ℕ) (room
       handed_is : handed ≡ portion c r
       handed_is = ap (λ (k : Selection). rows_of (row_width k) r.rows y) (sym u.reads.list) ∙ portion_back h u.reads.on_list
 
-      next_whole : (u.rows ++ portion c r) ++ left_at r.next ≡ ranked l
-      next_whole = whole_at l (u.rows ++ portion c r) r.next (next_reads h u.reads)
+      next_whole : (u.rows ++ portion c r) ++ left r.next ≡ ranked l
+      next_whole = (next_reads h u.reads).whole
 
       both_lawful : LawfulRows l.degree l.top l.gaps (u.rows ++ portion c r)
       both_lawful =
-          lawful_first l.degree l.top l.gaps (u.rows ++ portion c r) (left_at r.next)
+          lawful_first l.degree l.top l.gaps (u.rows ++ portion c r) (left r.next)
           (subst (LawfulRows l.degree l.top l.gaps) (sym next_whole) (ranked_lawful l lawful.degree lawful.top))
 
       pub handed_lawful : LawfulRows l.degree l.top l.gaps handed
@@ -120,10 +112,14 @@ module _ (l : Selection) (lawful : LawfulList l) (s : List ℕ) (at : ℕ) (room
       counted = length-append u.rows (portion c r) ∙ ap₂ ◌+◌ u.count (portion_length h)
 
       few : done + r.rows ≤ length (ranked l)
-      few = omega (arith, ap length next_whole, length-append (u.rows ++ portion c r) (left_at r.next), counted)
+      few = omega (arith, ap length next_whole, length-append (u.rows ++ portion c r) (left r.next), counted)
 
       pub count_fits : done + r.rows < 2 ^ 32
       count_fits = omega (arith, few, ranked_count_fits l lawful.degree, count_most l.degree)
+
+      written_length : length (bytes l u.rows) ≡ done * size_of l
+      written_length =
+          bytes_length u.rows (lawful_first l.degree l.top l.gaps u.rows (left c) all_lawful) ∙ ap (λ (n : ℕ). n * size_of l) u.count
 
       pub both_fit : at + done * size_of l + r.rows * size_of l ≤ length s
       both_fit =
@@ -133,17 +129,18 @@ module _ (l : Selection) (lawful : LawfulList l) (s : List ℕ) (at : ℕ) (room
 
       -- The portion's bytes fit behind those written.
       pub portion_fits : at + done * size_of l + r.rows * size_of l ≤ length t
-      portion_fits = omega (arith, both_fit, length_kept u)
+      portion_fits = omega (arith, both_fit, length_kept)
 
-      pub underway_next : {t' : List ℕ} → t' ≡ over (at + done * size_of l) (bytes l handed) t → Underway l s at r.next (done + r.rows) t'
+      pub underway_next : {t' : List ℕ} → t' ≡ over (at + done * size_of l) (bytes l handed) t → Underway l s at r.more (done + r.rows) r.next t'
       underway_next e = record {
         rows = u.rows ++ portion c r;
         reads = next_reads h u.reads;
         count = counted;
         file =
             e
-            ∙ ap₂ (λ (n : ℕ) (rows : List (List ℕ)). over (at + n) (bytes l rows) t) (sym (written_length u)) handed_is
+            ∙ ap₂ (λ (n : ℕ) (rows : List (List ℕ)). over (at + n) (bytes l rows) t) (sym written_length) handed_is
             ∙ ap (over (at + length (bytes l u.rows)) (bytes l (portion c r))) u.file
-            ∙ over_append at (bytes l u.rows) (bytes l (portion c r)) s (long u)
+            ∙ over_append at (bytes l u.rows) (bytes l (portion c r)) s long
             ∙ ap (λ (v : List ℕ). over at v s) (sym (bytes_append l u.rows (portion c r)));
+        ends = none_left h;
       }

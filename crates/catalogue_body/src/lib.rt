@@ -22,13 +22,15 @@ pub fn write_body(list: Selection, rows: &mut [u32], file: &mut [u8], at: usize)
     ensures file_after { file.new ≡ over at (body_bytes (ranked_list list)) file.old }
 {
     let size = sizes::row_size(list.degree, list.top, list.gaps);
-    let mut next = Some(reading::start(list));
+    let mut here = reading::start(list);
     let mut done: usize = 0;
-    while let Some(here) = next {
+    loop {
         let portion = reading::next(here, rows);
         write_rows(file, at + done * size, list, rows, portion.rows);
         done += portion.rows;
-        next = portion.next;
+        if !portion.more {
+            return done;
+        }
+        here = portion.next;
     }
-    done
 }

@@ -1,8 +1,7 @@
 -- What a slice filled from a cursor's position on says of the rows that are left: the rows in it are the next ones, the position after the last of
 -- them leaves the others, and a further row exists exactly where any are left. Assumes nothing.
 use mathlib.Core.Path.{◌≡◌, refl, sym, ap, ap₂, ◌∙◌}
-use Rattle.std.specs.Prelude.{Some, None}
-use mathlib.Core.Bool.{true, false}
+use mathlib.Core.Bool.{false}
 use mathlib.Core.List.{List, [], ◌∷◌}
 use Prim.Native.Nat.{ℕ, zero, suc, ◌+◌, ◌-◌, ◌*◌, ◌/◌, ◌<◌, ◌≤◌, min}
 use native.Mathlib.Nat.{le-div_iff_mul-le, div-mul-le_self, mul-le-mul_right, add-zero}
@@ -10,7 +9,7 @@ use native.Mathlib.Omega.{arith}
 use lib.Dec.{ltb}
 use lib.ListN.{length, take, drop, get_or, length-take, length-drop}
 use lib.Seq.{length-take-le}
-use borrow.Author.Tests.{lt-ltb, ltb-true, ltb-false}
+use borrow.Author.Tests.{lt-ltb, le-ltb, ltb-true}
 use Rattle.definitions.specs.Number.{join, over}
 use Rattle.definitions.specs.Pages.{Cut, page, more}
 use Rattle.definitions.specs.Ranking.{row_width, cut_of}
@@ -24,8 +23,8 @@ use Rattle.ranking_laws.specs.Met.{width_is}
 use Rattle.ranking_laws.specs.Reading.{after_last, last_row, last_number, page_by, page_wide}
 use Rattle.page_rows.specs.Serve.{Filled, fitting}
 use Rattle.definitions.specs.declared.Page.{Page}
-use Rattle.cursor.specs.Left.{left, passed, if_left, OnList, Handed}
-use Rattle.cursor.specs.Passed.{rule_at, page_by_lem, passed_some}
+use Rattle.cursor.specs.Left.{left, passed, OnList, Handed}
+use Rattle.cursor.specs.Passed.{rule_at, page_by_lem, passed_some, passed_left, passed_on}
 use Rattle.cursor.specs.Turns.{left_wide}
 use Rattle.cursor.specs.declared.reading.Cursor.{Cursor}
 
@@ -73,30 +72,16 @@ module _ (c : Cursor) {s t : List ℕ} {x : Page} (on : OnList c) (room : width_
   written_next : t ≡ over 0 (join (take x.rows (left c))) s
   written_next = f.written ∙ ap (λ (rows : List (List ℕ)). over 0 (join rows) s) (fitting_is ∙ sym next_rows)
 
-  more_is : x.further ≡ ltb 0 (length (drop x.rows (left c)))
-  unfolding more left
-  more_is =
-      f.further
-      ∙ more_left cap (length (left c))
-      ∙ ap (λ (n : ℕ). ltb 0 (length (left c) - n)) (sym count_min)
-      ∙ ap (ltb 0) (sym (length-drop x.rows (left c)))
-
-  pub handed_end : x.further ≡ false → Handed c s (record { rows = x.rows; next = None }) t
-  handed_end e = record {
-    count = count_min;
-    written = written_next;
-    next = go (drop x.rows (left c)) (ltb-false 0 (length (drop x.rows (left c))) (sym more_is ∙ e));
+  pub handed_none : x.rows ≡ 0 → Handed c s (record { rows = 0; more = false; next = c }) t
+  handed_none z = record {
+    count = sym z ∙ count_min;
+    written = rw z at written_next;
+    next = refl;
+    list = refl;
+    on_list = on;
+    behind = refl;
+    more = sym (le-ltb 0 (length (left c)) (omega (arith, count_min, some_fit)));
   }
-    where
-      go : (rows : List (List ℕ)) → length rows ≤ 0 → None ≡ if_left rows (passed c (take x.rows (left c)))
-      go [] z = refl
-      go (r ∷ rows) z = absurd (omega arith)
-
-  -- Where rows are left, some were handed out.
-  pub some_handed : x.further ≡ true → 1 ≤ x.rows
-  some_handed e =
-      let others = ltb-true 0 (length (drop x.rows (left c))) (sym more_is ∙ e) in
-      omega (arith, count_min, some_fit, length-drop x.rows (left c))
 
   -- ---- the position after the last of them
 
@@ -152,13 +137,24 @@ module _ (c : Cursor) {s t : List ℕ} {x : Page} (on : OnList c) (room : width_
           ap (λ (p : Position). record { list = c.list; position = p }) position_is
           ∙ sym (rw those (passed_some c (page_by (rule_at c) c.position cap) some_row))
 
-      pub handed_some : x.further ≡ true → Handed c s (record { rows = x.rows; next = Some behind }) t
-      handed_some e = record {
+      left_behind : left behind ≡ drop x.rows (left c)
+      left_behind = ap left next_is ∙ passed_left c x.rows
+
+      further_left : x.further ≡ ltb 0 (length (left behind))
+      unfolding more left
+      further_left =
+          f.further
+          ∙ more_left cap (length (left c))
+          ∙ ap (λ (n : ℕ). ltb 0 (length (left c) - n)) (sym count_min)
+          ∙ ap (ltb 0) (sym (ap length left_behind ∙ length-drop x.rows (left c)))
+
+      pub handed_some : Handed c s (record { rows = x.rows; more = x.further; next = behind }) t
+      handed_some = record {
         count = count_min;
         written = written_next;
-        next = ap (λ (d : Cursor). Some d) next_is ∙ go (drop x.rows (left c)) (ltb-true 0 (length (drop x.rows (left c))) (sym more_is ∙ e));
+        next = next_is;
+        list = refl;
+        on_list = rw next_is (passed_on c x.rows on);
+        behind = left_behind;
+        more = further_left;
       }
-        where
-          go : (rows : List (List ℕ)) → 0 < length rows → Some (passed c (take x.rows (left c))) ≡ if_left rows (passed c (take x.rows (left c)))
-          go [] l = absurd (omega arith)
-          go (r ∷ rows) l = refl

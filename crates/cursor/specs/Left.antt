@@ -1,5 +1,5 @@
 -- A cursor over a ranked list: which rows are left, and what a portion of them is. Assumes nothing.
-use Rattle.std.specs.Prelude.{◌≡◌, List, [], ◌∷◌, ℕ, ◌/◌, min, Option, Some, None, length, take, drop}
+use Rattle.std.specs.Prelude.{◌≡◌, List, [], ◌∷◌, ℕ, ◌/◌, min, ltb, length, take, drop}
 use Rattle.definitions.specs.Number.{join, over}
 use Rattle.definitions.specs.Pages.{rest}
 use Rattle.definitions.specs.Ranking.{row_width, row_key, ranked, cut_of}
@@ -24,11 +24,6 @@ abbrev pub passed : Cursor → List (List ℕ) → Cursor
 passed c [] = c
 passed c (r ∷ rows) = record { list = c.list; position = after_last (r ∷ rows) }
 
--- A cursor, where rows are left.
-abbrev pub if_left : List (List ℕ) → Cursor → Option Cursor
-if_left [] c = None
-if_left (r ∷ rows) c = Some c
-
 -- A cursor of a lawful list, at its start or after a row of it.
 pub record OnList (c : Cursor) : Type 0 where
   pub lawful : LawfulList c.list
@@ -40,5 +35,10 @@ pub record Handed (c : Cursor) (s : List ℕ) (r : Portion) (t : List ℕ) : Typ
   pub count : r.rows ≡ min (length s / row_width c.list) (length (left c))
   -- the next ones, stand over the front of the slice.
   pub written : t ≡ over 0 (join (take r.rows (left c))) s
-  -- and the cursor behind them is handed back where others are left.
-  pub next : r.next ≡ if_left (drop r.rows (left c)) (passed c (take r.rows (left c)))
+  -- The cursor behind them, of the same list, has the others left,
+  pub next : r.next ≡ passed c (take r.rows (left c))
+  pub list : r.next.list ≡ c.list
+  pub on_list : OnList r.next
+  pub behind : left r.next ≡ drop r.rows (left c)
+  -- and it is said whether there are any.
+  pub more : r.more ≡ ltb 0 (length (left r.next))

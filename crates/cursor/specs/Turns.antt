@@ -1,11 +1,12 @@
--- Reading a list to its end, `while let Some(c) = next { portion = next(c, ..); next = portion.next }`: what was handed out and what is left are
--- together the ranked list, at the start and after each turn; each turn leaves less; and at the end all was handed out. Assumes nothing.
-use Rattle.std.specs.Prelude.{◌≡◌, refl, Option, Some, None, List, [], ◌∷◌, ◌++◌, ℕ, suc, ◌*◌, ◌/◌, ◌<◌, ◌≤◌, length, take, drop}
-use Rattle.std.proofs.Common.{sym, ap, ap₂, ◌∙◌, append_assoc, append-nil, le-div_iff_mul-le, div-mul-le_self, mul-le-mul_right, arith, length-drop, take-append-drop, length-take-le}
+-- Reading a list to its end, `while more { portion = next(c, ..); c = portion.next; more = portion.more }`: what was handed out and what is left
+-- are together the ranked list, at the start and after each turn; each turn leaves less; and at the end all was handed out. Assumes nothing.
+use Rattle.std.specs.Prelude.{◌≡◌, refl, Bool, true, false, cond, List, [], ◌∷◌, ◌++◌, ℕ, suc, ◌*◌, ◌/◌, ◌<◌, ◌≤◌, length, take}
+use Rattle.std.proofs.Common.{sym, ap, ap₂, ◌∙◌, append_assoc, append-nil, le-div_iff_mul-le, div-mul-le_self, mul-le-mul_right, arith, length-drop, take-append-drop, length-take-le, ltb-true, ltb-false}
 use Rattle.definitions.specs.Number.{join}
 use Rattle.definitions.specs.Pages.{start, rest}
 use Rattle.definitions.specs.Ranking.{row_width, row_key, ranked, cut_of}
 use Rattle.definitions.specs.declared.Selection.{Selection}
+use Rattle.number_laws.specs.Truth.{by_test}
 use Rattle.number_laws.specs.Lists.{keep_out}
 use Rattle.page_laws.specs.Members.{take_within}
 use Rattle.page_laws.specs.Ascending.{rest_all}
@@ -14,8 +15,7 @@ use Rattle.page_laws.specs.Rows.{rows_of, Wide, length_join, rows_back}
 use Rattle.ranking_laws.specs.Ranked.{ranked_ascends, ranked_wide}
 use Rattle.ranking_laws.specs.Reading.{at_start}
 use Rattle.search.specs.Frame.{LawfulList}
-use Rattle.cursor.specs.Left.{left, start_of, passed, if_left, OnList, Handed}
-use Rattle.cursor.specs.Passed.{passed_list, passed_left, passed_on}
+use Rattle.cursor.specs.Left.{left, start_of, OnList, Handed}
 use Rattle.cursor.specs.declared.reading.Cursor.{Cursor}
 use Rattle.cursor.specs.declared.reading.Portion.{Portion}
 
@@ -40,48 +40,28 @@ pub left_wide : (c : Cursor) → OnList c → Wide (row_width c.list) (left c)
 unfolding left rest
 left_wide c on r i = ranked_wide c.list on.lawful.top.low r (keep_out _ (ranked c.list) i).0
 
--- The same where a cursor may be at hand: where none is, all rows were handed out.
-abbrev pub ReadsTo : Selection → List (List ℕ) → Option Cursor → Type 0
-ReadsTo l done (Some c) = Reads l done c
-ReadsTo l done None = done ≡ ranked l
-
-abbrev pub left_at : Option Cursor → List (List ℕ)
-left_at (Some c) = left c
-left_at None = []
-
-pub whole_at : (l : Selection) (done : List (List ℕ)) (next : Option Cursor) → ReadsTo l done next → done ++ left_at next ≡ ranked l
-whole_at l done (Some c) reads = reads.whole
-whole_at l done None reads = append-nil done ∙ reads
-
 -- The measure of such a loop: 0 at the end, and else one more than the rows that are left.
-abbrev pub to_go : Option Cursor → ℕ
-to_go (Some c) = suc (length (left c))
-to_go None = 0
+abbrev pub to_go : Bool → Cursor → ℕ
+to_go more c = cond more (suc (length (left c))) 0
 
 module _ {c : Cursor} {s t : List ℕ} {r : Portion} (h : Handed c s r t) where
-  pub next_reads : {l : Selection} {done : List (List ℕ)} → Reads l done c → ReadsTo l (done ++ portion c r) r.next
-  next_reads {l} {done} reads = rw h.next (go (drop r.rows (left c)) refl)
-    where
-      whole : (done ++ portion c r) ++ drop r.rows (left c) ≡ ranked l
-      whole =
-          append_assoc done (portion c r) (drop r.rows (left c))
-          ∙ ap (λ (rows : List (List ℕ)). done ++ rows) (take-append-drop r.rows (left c))
-          ∙ reads.whole
+  pub next_reads : {l : Selection} {done : List (List ℕ)} → Reads l done c → Reads l (done ++ portion c r) r.next
+  next_reads {done = done} reads = record {
+    on_list = h.on_list;
+    list = h.list ∙ reads.list;
+    whole =
+        append_assoc done (portion c r) (left r.next)
+        ∙ ap (λ (rows : List (List ℕ)). done ++ (portion c r ++ rows)) h.behind
+        ∙ ap (λ (rows : List (List ℕ)). done ++ rows) (take-append-drop r.rows (left c))
+        ∙ reads.whole;
+  }
 
-      go : (rows : List (List ℕ)) → drop r.rows (left c) ≡ rows → ReadsTo l (done ++ portion c r) (if_left rows (passed c (portion c r)))
-      go [] e = sym (append-nil (done ++ portion c r)) ∙ rw e at whole
-      go (x ∷ rows) e = record {
-        on_list = passed_on c r.rows reads.on_list;
-        list = passed_list c (portion c r) ∙ reads.list;
-        whole = rw (passed_left c r.rows) whole;
-      }
-
-  pub none_left : r.next ≡ None → drop r.rows (left c) ≡ []
-  none_left e = go (drop r.rows (left c)) (sym h.next ∙ e)
+  pub none_left : r.more ≡ false → left r.next ≡ []
+  none_left e = empty (left r.next) (ltb-false 0 (length (left r.next)) (sym h.more ∙ e))
     where
-      go : (rows : List (List ℕ)) → if_left rows (passed c (portion c r)) ≡ None → rows ≡ []
-      go [] e = refl
-      go (x ∷ rows) e = cc
+      empty : (l : List (List ℕ)) → length l ≤ 0 → l ≡ []
+      empty [] z = refl
+      empty (x ∷ l) z = absurd (omega arith)
 
   pub portion_length : length (portion c r) ≡ r.rows
   portion_length = length-take-le r.rows (left c) (omega (arith, h.count))
@@ -107,15 +87,13 @@ module _ {c : Cursor} {s t : List ℕ} {r : Portion} (h : Handed c s r t) where
       length_join (row_width c.list) rows (portion_wide on) ∙ ap (λ (n : ℕ). n * row_width c.list) portion_length in
       ap length h.written ∙ length_over 0 (join rows) s (omega (arith, rows_fit))
 
-  pub turn_falls : row_width c.list ≤ length s → to_go r.next < to_go (Some c)
+  pub turn_falls : row_width c.list ≤ length s → to_go r.more r.next < to_go true c
   turn_falls room =
       let some : 1 ≤ length s / row_width c.list = (le-div_iff_mul-le {k = row_width c.list} {x = 1} {y = length s} (omega arith)).1 (omega arith) in
-      rw h.next (go (drop r.rows (left c)) refl some)
-    where
-      go : (rows : List (List ℕ)) → drop r.rows (left c) ≡ rows → 1 ≤ length s / row_width c.list
-          → to_go (if_left rows (passed c (portion c r))) < suc (length (left c))
-      go [] e some = omega arith
-      go (x ∷ rows) e some = rw (passed_left c r.rows) (omega (arith, h.count, ap length e, length-drop r.rows (left c)))
+      let fewer = ap length h.behind ∙ length-drop r.rows (left c) in
+      by_test r.more
+      (λ e. let any = ltb-true 0 (length (left r.next)) (sym h.more ∙ e) in rw e (omega (arith, h.count)))
+      (λ e. rw e (omega arith))
 
 -- Nothing is left: all was handed out.
 pub reads_end : {l : Selection} {done : List (List ℕ)} {c : Cursor} → Reads l done c → left c ≡ [] → done ≡ ranked l

@@ -15,11 +15,13 @@ pub struct Cursor {
     pub position: Position,
 }
 
-// What was handed out: how many rows, and the cursor behind them where rows are left.
+// What was handed out: how many rows, whether rows are left, and the cursor behind them.
+// A flag beside the cursor: the cursor behind the last row is handed out too, and promised (docs/PROMISES.md).
 #[derive(Clone, Copy)]
 pub struct Portion {
     pub rows: usize,
-    pub next: Option<Cursor>,
+    pub more: bool,
+    pub next: Cursor,
 }
 
 // Before the first row of a list.
@@ -27,7 +29,7 @@ pub fn start(list: Selection) -> Cursor
     ensures { result ≡ start_of list }
 {
     Cursor {
-        list: list,
+        list,
         position: Position::Start,
     }
 }
@@ -49,16 +51,20 @@ pub fn next(at: Cursor, out: &mut [u32]) -> Portion
 {
     let served = serve::fill(at.list, at.position, out);
     let rows = served.rows;
-    if !served.further {
-        return Portion { rows, next: None };
+    if rows == 0 {
+        return Portion {
+            rows: 0,
+            more: false,
+            next: at,
+        };
     }
-    let last = (rows - 1) * width_of(at.list);
     let behind = Cursor {
         list: at.list,
-        position: after_row(out, last),
+        position: after_row(out, (rows - 1) * width_of(at.list)),
     };
     Portion {
         rows,
-        next: Some(behind),
+        more: served.further,
+        next: behind,
     }
 }

@@ -1,8 +1,6 @@
 -- The next rows as a part: by whether a row is left, and whether one is left over. Assumes nothing.
 use mathlib.Core.Path.{◌≡◌, refl, sym, ap, ap₂, ◌∙◌}
-use Rattle.std.specs.Prelude.{Option, Some, None}
-use Rattle.std.specs.Option.{is_some}
-use mathlib.Core.Bool.{Bool, true, false}
+use mathlib.Core.Bool.{true, false, false≢true}
 use mathlib.Core.List.{List, [], ◌∷◌, append-nil}
 use Prim.Native.Nat.{ℕ, ◌+◌, ◌*◌, ◌/◌, ◌≤◌, min}
 use native.Mathlib.Nat.{add-zero, mul-le-mul_right, div-mul-le_self}
@@ -15,7 +13,7 @@ use Rattle.definitions.specs.Listing.{page_text}
 use Rattle.slice_laws.specs.Place.{placed, behind}
 use Rattle.slice_laws.proofs.Placing.{put_front}
 use Rattle.page_laws.specs.Rows.{rows_of}
-use Rattle.cursor.specs.Left.{left, passed, if_left}
+use Rattle.cursor.specs.Left.{left, passed}
 use Rattle.cursor.specs.declared.reading.Cursor.{Cursor}
 use Rattle.cursor.specs.declared.reading.Portion.{Portion}
 use Rattle.paged_rows.specs.Printed.{some, rows_text}
@@ -23,7 +21,7 @@ use Rattle.paged_rows.specs.Room.{step_room, empty_page}
 use Rattle.listing_start.specs.Left.{OnWay}
 use Rattle.listing_start.specs.declared.Printing.{Printing}
 use Rattle.listing_start.specs.declared.Printing.TheVariants.{Rows, Total}
-use Rattle.listing_parts.specs.Parts.{rows_part, part_rows, part_text, behind_rows, behind_part, goes_on, next_part}
+use Rattle.listing_parts.specs.Parts.{rows_part, part_rows, part_text, behind_rows, behind_part, next_part}
 use Rattle.listing_parts.specs.declared.parts.Part.{Part}
 use Rattle.listing_parts.proofs.Front.{part_is}
 use Rattle.listing_rows.specs.Taken.{HandedWithin, within_back}
@@ -62,24 +60,21 @@ module _ (c : Cursor) (size done k : ℕ) where
       go [] h = absurd (omega arith)
       go (r ∷ l) h = refl
 
-  -- What is left to print, by the cursor that was handed back.
-  abbrev pub next_printing : Option Cursor → ℕ → Printing
-  next_printing (Some d) count = Rows d size (done + count)
-  next_printing None count = Total (done + count)
-
-  printing_behind : next_printing (if_left (drop k (left c)) (passed c (take k (left c)))) (length (take k (left c))) ≡ behind_part k at
-  printing_behind = go (drop k (left c)) refl
+  more_behind : some (drop k (left c)) ≡ true → Rows (passed c (take k (left c))) size (done + length (take k (left c))) ≡ behind_part k at
+  more_behind h = go (drop k (left c)) h
     where
-      go : (l : List (List ℕ)) → drop k (left c) ≡ l
-          → next_printing (if_left l (passed c (take k (left c)))) (length (take k (left c))) ≡ behind_rows k c size done l
-      go [] e =
+      go : (l : List (List ℕ)) → some l ≡ true → Rows (passed c (take k (left c))) size (done + length (take k (left c))) ≡ behind_rows k c size done l
+      go [] h = absurd (false≢true h)
+      go (r ∷ l) h = refl
+
+  end_behind : some (drop k (left c)) ≡ false → Total (done + length (take k (left c))) ≡ behind_part k at
+  end_behind h = go (drop k (left c)) refl h
+    where
+      go : (l : List (List ℕ)) → drop k (left c) ≡ l → some l ≡ false → Total (done + length (take k (left c))) ≡ behind_rows k c size done l
+      go [] e h =
           let all : take k (left c) ≡ left c = sym (append-nil (take k (left c))) ∙ rw e at (take-append-drop k (left c)) in
           ap (λ (l : List (List ℕ)). Total (done + length l)) all
-      go (r ∷ l) e = refl
-
-  some_behind : (l : List (List ℕ)) (d : Cursor) → is_some (if_left l d) ≡ some l
-  some_behind [] d = refl
-  some_behind (r ∷ l) d = refl
+      go (r ∷ l) e h = absurd (false≢true (sym h))
 
   -- ---- what was handed out
 
@@ -103,27 +98,28 @@ module _ (c : Cursor) (size done k : ℕ) where
           nothing [] z = refl
           nothing (x ∷ l) z = absurd (omega arith)
 
-      module _ (any : r.rows ≡ 0 → ⊥) {further : Bool} (tells : further ≡ is_some r.next)
-          (bytes : b ≡ length (rows_text size done further (rows_of (row_width c.list) r.rows t)))
-          (put : exit ≡ over 0 (rows_text size done further (rows_of (row_width c.list) r.rows t)) text) where
-        text_is : rows_text size done further (rows_of (row_width c.list) r.rows t) ≡ part_text k at
+      module _ (any : r.rows ≡ 0 → ⊥) (bytes : b ≡ length (rows_text size done r.more (rows_of (row_width c.list) r.rows t)))
+          (put : exit ≡ over 0 (rows_text size done r.more (rows_of (row_width c.list) r.rows t)) text) where
+        text_is : rows_text size done r.more (rows_of (row_width c.list) r.rows t) ≡ part_text k at
         text_is =
-            ap₂ (rows_text size done) (tells ∙ ap is_some h.next ∙ some_behind (drop k (left c)) (passed c (take k (left c)))) (within_back c k on.on_list h)
+            ap₂ (rows_text size done) h.more (within_back c k on.on_list h)
             ∙ sym (some_text (let n : ¬ (r.rows ≡ 0) = any in omega (arith, h.count)))
 
         rows_count : r.rows ≡ length (take k (left c))
         rows_count = h.count ∙ sym (length-take k (left c))
 
-        goes : (next : Option Cursor) (count : ℕ) → goes_on (next_printing next count) ≡ true
-        goes (Some d) count = refl
-        goes None count = refl
-
-        pub next_put : {next : Printing} → next ≡ next_printing r.next r.rows
-            → (◌≡◌ {A = Part} (record { bytes = b; more = true; next = next }) (next_part k at))
+        pub next_more : r.more ≡ true
+            → (◌≡◌ {A = Part} (record { bytes = b; more = true; next = Rows r.next size (done + r.rows) }) (next_part k at))
             × ((t ≡ over 0 (join (part_rows k at)) s) × (exit ≡ over 0 (part_text k at) text))
-        next_put {next} e =
-            let behind : next ≡ behind_part k at = e ∙ ap₂ next_printing h.next rows_count ∙ printing_behind in
-            let on : true ≡ goes_on next = sym (ap goes_on e ∙ goes r.next r.rows) in (
-              ap (λ (more : Bool). record { bytes = b; more = more; next = next }) on ∙ part_is k at (bytes ∙ ap length text_is) behind,
-              (h.written, put ∙ ap (λ (l : List ℕ). over 0 l text) text_is),
-            )
+        next_more m =
+            let next : Rows r.next size (done + r.rows) ≡ behind_part k at =
+            ap₂ (λ (d : Cursor) (n : ℕ). Rows d size (done + n)) h.next rows_count ∙ more_behind (sym h.more ∙ m) in
+            (part_is k at (bytes ∙ ap length text_is) next, (h.written, put ∙ ap (λ (l : List ℕ). over 0 l text) text_is))
+
+        pub next_end : r.more ≡ false
+            → (◌≡◌ {A = Part} (record { bytes = b; more = true; next = Total (done + r.rows) }) (next_part k at))
+            × ((t ≡ over 0 (join (part_rows k at)) s) × (exit ≡ over 0 (part_text k at) text))
+        next_end m =
+            let next : Total (done + r.rows) ≡ behind_part k at =
+            ap (λ (n : ℕ). Total (done + n)) rows_count ∙ end_behind (sym h.more ∙ m) in
+            (part_is k at (bytes ∙ ap length text_is) next, (h.written, put ∙ ap (λ (l : List ℕ). over 0 l text) text_is))

@@ -38,16 +38,19 @@ pub(crate) fn next_rows(
             next: Printing::Total(done),
         };
     }
-    let further = portion.next.is_some();
-    let bytes = put_rows(text, rows, width, count, size, done, further);
+    let bytes = put_rows(text, rows, width, count, size, done, portion.more);
     let printed = done + count as u32;
-    let next = match portion.next {
-        Some(behind) => Printing::Rows(behind, size, printed),
-        None => Printing::Total(printed),
-    };
+    if portion.more {
+        let behind = portion.next;
+        return Part {
+            bytes,
+            more: true,
+            next: Printing::Rows(behind, size, printed),
+        };
+    }
     Part {
         bytes,
         more: true,
-        next,
+        next: Printing::Total(printed),
     }
 }

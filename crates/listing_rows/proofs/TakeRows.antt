@@ -1,13 +1,13 @@
 -- The next rows, at most so many, in a longer slice: a cursor hands them out into the part of the slice that so many rows fill. Assumes nothing.
 use mathlib.Core.Path.{◌≡◌, sym, ap, ◌∙◌}
-use mathlib.Core.List.{List, ◌++◌}
+use mathlib.Core.List.{List, [], ◌∷◌, ◌++◌}
 use Prim.Native.Nat.{ℕ, ◌*◌, ◌/◌, ◌≤◌, min}
 use native.Mathlib.Nat.{mul-div_cancel, mul-le-mul_right}
 use native.Mathlib.Omega.{arith}
-use lib.Dec.{leb}
+use lib.Dec.{leb, ltb}
 use lib.ListN.{length, take, drop, length-take, take-append-drop, drop_of_length-le}
 use lib.Seq.{take_all, length-take-le}
-use borrow.Author.Tests.{leb-true, leb-false}
+use borrow.Author.Tests.{leb-true, leb-false, lt-ltb, le-ltb}
 use Rattle.definitions.specs.Number.{join, over}
 use Rattle.definitions.specs.Ranking.{row_width}
 use Rattle.number_laws.specs.Truth.{by_test}
@@ -16,7 +16,12 @@ use Rattle.page_laws.specs.Rows.{length_join}
 use Rattle.cursor.specs.Left.{left, OnList, Handed}
 use Rattle.cursor.specs.declared.reading.Cursor.{Cursor}
 use Rattle.cursor.specs.declared.reading.Portion.{Portion}
+use Rattle.paged_rows.specs.Printed.{some}
 use Rattle.listing_rows.specs.Taken.{HandedWithin, those_wide}
+
+some_any : (l : List (List ℕ)) → ltb 0 (length l) ≡ some l
+some_any [] = le-ltb 0 0 (omega arith)
+some_any (r ∷ l) = lt-ltb 0 (length (r ∷ l)) (omega arith)
 
 module _ {X : Type 0} (k : ℕ) (l : List X) where
   take_min : take (min k (length l)) l ≡ take k l
@@ -60,5 +65,6 @@ module _ (c : Cursor) (most : ℕ) (on : OnList c) where
               back
               ∙ rw front (sym (over_part (join those) (take end s) (drop end s) (omega (arith, those_long))))
               ∙ ap (over 0 (join those)) (take-append-drop end s);
-          next = rw (rows, others) at h.next;
+          next = rw rows at h.next;
+          more = h.more ∙ ap (λ (l : List (List ℕ)). ltb 0 (length l)) (h.behind ∙ others) ∙ some_any (drop most (left c));
         }

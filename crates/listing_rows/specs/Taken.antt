@@ -5,16 +5,18 @@ use Rattle.definitions.specs.Number.{join, over}
 use Rattle.definitions.specs.Ranking.{row_width}
 use Rattle.page_laws.specs.Members.{take_within}
 use Rattle.page_laws.specs.Rows.{Wide, rows_of, rows_back}
-use Rattle.cursor.specs.Left.{left, passed, if_left, OnList}
+use Rattle.cursor.specs.Left.{left, passed, OnList}
 use Rattle.cursor.specs.Turns.{left_wide}
 use Rattle.cursor.specs.declared.reading.Cursor.{Cursor}
 use Rattle.cursor.specs.declared.reading.Portion.{Portion}
+use Rattle.paged_rows.specs.Printed.{some}
 
 -- The next rows handed out, at most so many, over the front of the slice s that is t now.
 pub record HandedWithin (c : Cursor) (most : ℕ) (s : List ℕ) (r : Portion) (t : List ℕ) : Type 0 where
   pub count : r.rows ≡ min most (length (left c))
   pub written : t ≡ over 0 (join (take most (left c))) s
-  pub next : r.next ≡ if_left (drop most (left c)) (passed c (take most (left c)))
+  pub next : r.next ≡ passed c (take most (left c))
+  pub more : r.more ≡ some (drop most (left c))
 
 module _ (c : Cursor) (most : ℕ) (on : OnList c) where
   pub those_wide : Wide (row_width c.list) (take most (left c))

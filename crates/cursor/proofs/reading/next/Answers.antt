@@ -1,8 +1,7 @@
--- `next` fills the slice at the cursor's position: where a further row exists, the last row tells the next position. Assumes nothing.
+-- `next` fills the slice at the cursor's position: no row means that none is left, and else the last row tells the next position. Assumes nothing.
 use mathlib.Core.Path.{◌≡◌, ap}
 use Prim.Native.Nat.{ℕ, ◌-◌, ◌*◌, ◌≤◌}
 use native.Mathlib.Omega.{arith}
-use borrow.Author.Tests.{not-false, not-true}
 use Rattle.definitions.specs.Ranking.{row_width}
 use Rattle.cursor.proofs.NextLaws as laws
 use Rattle.cursor.proofs.reading.next.Goals as goal
@@ -12,7 +11,7 @@ abbrev rows : After-width_of → ℕ
 rows c = c.fill-served.result.rows
 
 some_row : (c : After-width_of) → 1 ≤ rows c
-some_row c = laws.some_handed c.args.at c.requires.0 c.requires.1 c.fill-served.ensures (not-false _ c.if-not-served.false)
+some_row c = let left = c.if-rows-eq0.false in omega (arith, left)
 
 abbrev place : After-width_of → ℕ
 place c = (rows c - 1) * c.width_of.result
@@ -20,21 +19,16 @@ place c = (rows c - 1) * c.width_of.result
 place_is : (c : After-width_of) → place c ≡ (rows c - 1) * row_width c.args.at.list
 place_is c = ap (λ (w : ℕ). (rows c - 1) * w) c.width_of.ensures
 
-pub returns-then-not-served : goal.returns-then-not-served
-returns-then-not-served c = laws.handed_end c.args.at c.requires.0 c.requires.1 c.fill-served.ensures (not-true _ c.if-not-served.true)
+pub returns-then-rows-eq0 : goal.returns-then-rows-eq0
+returns-then-rows-eq0 c = laws.handed_none c.args.at c.requires.0 c.requires.1 c.fill-served.ensures c.if-rows-eq0.true
 
-pub overflow_sub-last : goal.overflow_sub-last
-overflow_sub-last c = laws.some_handed c.args.at c.requires.0 c.requires.1 c.fill-served.ensures (not-false _ c.if-not-served.false)
-
-pub overflow_mul-last : goal.overflow_mul-last
-overflow_mul-last c = omega (arith, laws.last_inside c.args.at c.requires.0 c.requires.1 c.fill-served.ensures (some_row c) (place c) (place_is c))
+pub overflow_mul-rows : goal.overflow_mul-rows
+overflow_mul-rows c = omega (arith, laws.last_inside c.args.at c.requires.0 c.requires.1 c.fill-served.ensures (some_row c) (place c) (place_is c))
 
 pub after_row-requires : goal.after_row-requires
-after_row-requires c =
-    let known = (goal.at.after_row-requires c).After-width_of in
-    laws.last_inside c.args.at c.requires.0 c.requires.1 c.fill-served.ensures (some_row known) (place known) (place_is known)
+after_row-requires c = laws.last_inside c.args.at c.requires.0 c.requires.1 c.fill-served.ensures (some_row c) (place c) (place_is c)
 
 pub returns : goal.returns
 returns c =
     let known = (goal.at.returns c).After-width_of in
-    laws.handed_some c.args.at c.requires.0 c.requires.1 c.fill-served.ensures (some_row known) (place_is known) c.after_row.ensures (not-false _ c.if-not-served.false)
+    laws.handed_some c.args.at c.requires.0 c.requires.1 c.fill-served.ensures (some_row known) (place_is known) c.after_row.ensures

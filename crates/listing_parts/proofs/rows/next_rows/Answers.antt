@@ -1,5 +1,5 @@
 -- `listing_parts::rows::next_rows` has the cursor hand out as many rows as fit both slices, and puts them. Assumes nothing.
-use mathlib.Core.Path.{◌≡◌, refl}
+use mathlib.Core.Path.{◌≡◌}
 use Prim.Native.Nat.{ℕ, ◌*◌, ◌/◌, ◌≤◌}
 use native.Mathlib.Nat.{mul-le-mul_right}
 use native.Mathlib.Omega.{arith}
@@ -10,7 +10,7 @@ use Rattle.paged_rows.specs.Room.{step_room}
 use Rattle.listing_rows.specs.Taken.{HandedWithin}
 use Rattle.listing_start.specs.declared.Printing.TheVariants.{Rows}
 use Rattle.listing_parts.specs.Parts.{rows_that_fit, rows_that_fit_some}
-use Rattle.listing_parts.proofs.NextRows.{fits_numbers, fits_bytes, few_handed, next_none, next_put}
+use Rattle.listing_parts.proofs.NextRows.{fits_numbers, fits_bytes, few_handed, next_none, next_more, next_end}
 use Rattle.listing_parts.proofs.rows.next_rows.Goals as goal
 use Rattle.listing_parts.proofs.rows.next_rows.Goals.{After-take_rows-portion}
 
@@ -72,20 +72,20 @@ put_rows-bytes-requires c =
       step_room_in_bounds = omega arith;
     }
 
-pub returns-in-Some : goal.returns-in-Some
-returns-in-Some c =
-    let known = (goal.at.returns-in-Some c).After-take_rows-portion in
+pub returns-then-portion : goal.returns-then-portion
+returns-then-portion c =
+    let known = (goal.at.returns-then-portion c).After-take_rows-portion in
     let a = c.args in
     let put = c.put_rows-bytes.ensures in
-    let all = next_put a.from a.size a.done (fit known) (handed known) (some_fit known) c.requires.on_way a.text.now
-    c.if-count-eq0.false c.is_some-further.ensures (rw c.width_of-width.ensures at put.value) (rw c.width_of-width.ensures at put.text_after) (rw c.in-Some.is refl) in
+    let all = next_more a.from a.size a.done (fit known) (handed known) (some_fit known) c.requires.on_way a.text.now
+    c.if-count-eq0.false (rw c.width_of-width.ensures at put.value) (rw c.width_of-width.ensures at put.text_after) c.if-portion.true in
     record { value = all.0; rows_after = all.1.0; text_after = all.1.1 }
 
-pub returns-in-None : goal.returns-in-None
-returns-in-None c =
-    let known = (goal.at.returns-in-None c).After-take_rows-portion in
+pub returns : goal.returns
+returns c =
+    let known = (goal.at.returns c).After-take_rows-portion in
     let a = c.args in
     let put = c.put_rows-bytes.ensures in
-    let all = next_put a.from a.size a.done (fit known) (handed known) (some_fit known) c.requires.on_way a.text.now
-    c.if-count-eq0.false c.is_some-further.ensures (rw c.width_of-width.ensures at put.value) (rw c.width_of-width.ensures at put.text_after) (rw c.in-None.is refl) in
+    let all = next_end a.from a.size a.done (fit known) (handed known) (some_fit known) c.requires.on_way a.text.now
+    c.if-count-eq0.false (rw c.width_of-width.ensures at put.value) (rw c.width_of-width.ensures at put.text_after) c.if-portion.false in
     record { value = all.0; rows_after = all.1.0; text_after = all.1.1 }
