@@ -14,6 +14,7 @@ use cursor::reading;
 use definitions::Selection;
 
 // Writes the body at a place, and answers how many rows it has. `rows` takes the rows at hand.
+// File and place, not a slice: the contract says what is written over the file there.
 pub fn write_body(list: Selection, rows: &mut [u32], file: &mut [u8], at: usize) -> usize
     requires lawful_list { LawfulList list }
     requires list_in_bounds { row_width list ≤ length rows.old }

@@ -12,7 +12,7 @@ pub fn write_number(file: &mut [u8], at: usize, width: usize, n: u32)
     ensures { file.new ≡ over at (bytes_of width n) file.old }
 {
     let mut rest = n;
-    // By index: of what `iter_mut` writes a proof learns no element.
+    // By index: backwards, after `iter_mut().rev()`, a proof knows how many bytes were written and not which.
     for k in (0..width).rev() {
         file[at + k] = (rest % 256) as u8;
         rest /= 256;

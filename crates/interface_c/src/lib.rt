@@ -1,5 +1,6 @@
 // The archive for C: each public call under its C name, as include/fenyurka.h declares it, with the clauses of crate `interface`, which answers it.
-// Structs go in and out by value, and only slices are behind pointers.
+// Structs go in and out by value, and only slices are behind pointers. Twice, here and in `interface`: a static library is no crate that another stands on,
+// and `demands` cites the contracts.
 #![tactic(auto)]
 
 ghost use Rattle.std.specs.Prelude.{◌≡◌};
