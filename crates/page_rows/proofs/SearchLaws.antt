@@ -50,7 +50,7 @@ root = record { p = 1; q = 0 }
 
 module _ (l : Selection) (last : Option (Bor (List ℕ))) (s : List ℕ) (cap : ℕ) (lawful : LawfulList l) where
   abbrev cut : Cut
-  cut = cut_after last
+  cut = cut_after (row_width l) last
 
   abbrev frame : Frame
   frame = record { list = l; capacity = cap; last = last }

@@ -16,7 +16,7 @@ use search::{rank, walk};
 // Walks down the tree from its root, and then writes the steps of the rows kept. The slice must hold a row; it is the only room that the search needs.
 fn search_all(list: Selection, last: Option<&[u32]>, out: &mut [u32]) -> Page
     requires { LawfulList list × Lent list last × (row_width list ≤ length out.old) }
-    ensures { Filled list (cut_after last.entry) out.old result out.new }
+    ensures { Filled list (cut_after (row_width list) last.entry) out.old result out.new }
 {
     let width = width_of(list);
     let capacity = out.len() / width;
@@ -44,7 +44,7 @@ pub fn fill(list: Selection, position: Position, out: &mut [u32]) -> Page
         Position::After(p, q) => {
             let mut last: [u32; LONGEST_ROW] = [0; LONGEST_ROW];
             rank::write_key(list, p, q, &mut last);
-            search_all(list, Some(&last[..width_of(list)]), out)
+            search_all(list, Some(&last), out)
         }
     }
 }

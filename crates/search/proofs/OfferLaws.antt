@@ -7,6 +7,7 @@ use mathlib.Core.Bool.{Bool, true, false, ◌&&◌, and-eq-true_iff}
 use mathlib.Core.List.{List, [], ◌∷◌}
 use Prim.Native.Nat.{ℕ, ◌+◌}
 use native.Mathlib.Omega.{arith}
+use lib.ListN.{take}
 use Rattle.definitions.specs.Generator.{Pair, primitive, linear_quotients, coprime_step, accepted, reaches_floor, accepted_at}
 use Rattle.definitions.specs.Pages.{after, above}
 use Rattle.definitions.specs.Ranking.{row_key}
@@ -33,8 +34,9 @@ module _ (f : Frame) (k : List ℕ) where
   pub above_open : f.last ≡ None → true ≡ above (cut_from f) k
   above_open e = rw e (sym (above_start k))
 
-  pub above_last : {r : Bool} {j : Bor (List ℕ)} → f.last ≡ Some j → r ≡ above (after (row_key j.now)) k → r ≡ above (cut_from f) k
-  above_last e t = rw e t
+  pub above_last : {r : Bool} {j : Bor (List ℕ)} {w : ℕ} → f.last ≡ Some j → w ≡ width_of f
+      → r ≡ above (after (row_key (take w j.now))) k → r ≡ above (cut_from f) k
+  above_last e n t = rw (e, ← n) t
 
 -- ---- a row offered
 

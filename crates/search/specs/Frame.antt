@@ -1,5 +1,5 @@
 -- A search as the contracts name it: its cut, what it has found so far, and the bounds within which it works. Assumes nothing.
-use Rattle.std.specs.Prelude.{◌≡◌, Option, Some, None, List, ℕ, ◌+◌, ◌*◌, ◌^◌, ◌≤◌, length}
+use Rattle.std.specs.Prelude.{Option, Some, None, List, ℕ, ◌+◌, ◌*◌, ◌^◌, ◌≤◌, length, take}
 use Rattle.std.specs.Borrow.{Bor}
 use Rattle.std.proofs.Common.{arith}
 use Rattle.definitions.specs.declared.Selection.{Selection}
@@ -25,17 +25,17 @@ width_most {l} h = omega (arith, h.top.high, bit_most l.gaps)
 abbrev pub width_of : Frame → ℕ
 width_of f = row_width f.list
 
--- Where a page begins: after a row, or at the start.
-abbrev pub cut_after : Option (Bor (List ℕ)) → Cut
-cut_after (Some r) = after (row_key r.now)
-cut_after None = start
+-- Where a page begins: after the row that the first so many numbers are, or at the start.
+abbrev pub cut_after : ℕ → Option (Bor (List ℕ)) → Cut
+cut_after width (Some r) = after (row_key (take width r.now))
+cut_after width None = start
 
 abbrev pub cut_from : Frame → Cut
-cut_from f = cut_after f.last
+cut_from f = cut_after (width_of f) f.last
 
--- The row that a page begins after has the numbers of a row of the list.
+-- What is lent has at least the numbers of a row of the list.
 abbrev pub Lent : Selection → Option (Bor (List ℕ)) → Type 0
-Lent l (Some r) = length r.now ≡ row_width l
+Lent l (Some r) = row_width l ≤ length r.now
 Lent l None = Unit {0}
 
 abbrev pub state_of : List ℕ → Tally → Search

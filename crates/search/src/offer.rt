@@ -28,7 +28,7 @@ fn is_above(row: &[u32], f: &Frame) -> bool
 {
     match f.last {
         None => true,
-        Some(last) => stands_after(row, last),
+        Some(last) => stands_after(row, &last[..row.len()]),
     }
 }
 
