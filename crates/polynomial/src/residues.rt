@@ -8,7 +8,66 @@ ghost use Rattle.polynomial.specs.Powers.{InTurn, Gives};
 
 use crate::digits;
 
-// The residues modulo p, whose leading term is `lead`.
+// x times y, with one conditional subtraction of p. The mask compiles to a conditional move, where a comparison would be a branch that the data decides.
+pub fn times_x(y: u32, p: u32, lead: u32) -> u32
+    requires modulus { Modulus p lead }
+    requires y_lt_lead { y < lead }
+    ensures { (result ≡ rem (2 * y) p) × (result < lead) }
+{
+    let double = y * 2;
+    if double & lead == 0 {
+        double
+    } else {
+        double ^ p
+    }
+}
+
+// The product of a and b, q and X_(i-1) in document 001, equation (6): a step takes one coefficient of a, the highest first, and one conditional subtraction.
+pub fn mul_mod(a: u32, b: u32, p: u32, lead: u32) -> u32
+    requires modulus { Modulus p lead }
+    requires b_lt_lead { b < lead }
+    ensures { (result ≡ rem (prod a b) p) × (result < lead) }
+{
+    if a == 0 {
+        return 0;
+    }
+    let mut product: u32 = 0;
+    let mut term = 1 << digits::degree_of(a);
+    while term != 0 {
+        let summand = if a & term == 0 { 0 } else { b };
+        product = times_x(product, p, lead) ^ summand;
+        term /= 2;
+    }
+    product
+}
+
+// q to the e, where `square` squares a residue and `times_q` multiplies one by q: for each digit of e, the highest first, the power is squared, and
+// multiplied by q where the digit is 1.
+pub fn power_by<S: Fn(u32) -> u32, T: Fn(u32) -> u32>(e: u32, square: S, times_q: T) -> u32
+    requires { InTurn (S.pre square) (S.post square) (T.pre times_q) (T.post times_q) 1 }
+    ensures { (p lead q : ℕ) → Modulus p lead → Gives (S.post square) (λ y. prod y y) p lead → Gives (T.post times_q) (λ y. prod y q) p lead
+        → (result ≡ rem (power q e) p) × (result < lead) }
+{
+    let mut power: u32 = 1;
+    for i in (0..32 - u32::leading_zeros(e)).rev() {
+        power = square(power);
+        if (e >> i) % 2 == 1 {
+            power = times_q(power);
+        }
+    }
+    power
+}
+
+// q to the e, by products.
+pub fn pow_mod(q: u32, e: u32, p: u32, lead: u32) -> u32
+    requires modulus { Modulus p lead }
+    requires q_lt_lead { q < lead }
+    ensures { (result ≡ rem (power q e) p) × (result < lead) }
+{
+    power_by(e, |y| mul_mod(y, y, p, lead), |y| mul_mod(y, q, p, lead))
+}
+
+// The residues modulo p: p and its leading term, which belong together.
 #[derive(Clone, Copy)]
 pub struct Residues {
     pub p: u32,
@@ -29,37 +88,20 @@ impl Residues {
         }
     }
 
-    // x times y, with one conditional subtraction of p. The mask compiles to a conditional move, where a comparison would be a branch that the data
-    // decides.
+    // x times y.
     pub fn times_x(self, y: u32) -> u32
         requires { y < self.lead }
         ensures { (result ≡ rem (2 * y) self.p) × (result < self.lead) }
     {
-        let double = y * 2;
-        if double & self.lead == 0 {
-            double
-        } else {
-            double ^ self.p
-        }
+        times_x(y, self.p, self.lead)
     }
 
-    // The product of a and b, q and X_(i-1) in document 001, equation (6): a step takes one coefficient of a, the highest first, and one conditional
-    // subtraction.
+    // The product of a and b.
     pub fn product(self, a: u32, b: u32) -> u32
         requires { b < self.lead }
         ensures { (result ≡ rem (prod a b) self.p) × (result < self.lead) }
     {
-        if a == 0 {
-            return 0;
-        }
-        let mut product: u32 = 0;
-        let mut term = 1 << digits::degree_of(a);
-        while term != 0 {
-            let summand = if a & term == 0 { 0 } else { b };
-            product = self.times_x(product) ^ summand;
-            term /= 2;
-        }
-        product
+        mul_mod(a, b, self.p, self.lead)
     }
 
     // q to the e.
@@ -67,48 +109,6 @@ impl Residues {
         requires { q < self.lead }
         ensures { (result ≡ rem (power q e) self.p) × (result < self.lead) }
     {
-        power_by(e, |y| self.product(y, y), |y| self.product(y, q))
+        pow_mod(q, e, self.p, self.lead)
     }
-}
-
-// q to the e, where `square` squares a residue and `times_q` multiplies one by q: for each digit of e, the highest first, the power is squared, and
-// multiplied by q where the digit is 1.
-pub fn power_by<S: Fn(u32) -> u32, T: Fn(u32) -> u32>(e: u32, square: S, times_q: T) -> u32
-    requires { InTurn (S.pre square) (S.post square) (T.pre times_q) (T.post times_q) 1 }
-    ensures { (p lead q : ℕ) → Modulus p lead → Gives (S.post square) (λ y. prod y y) p lead → Gives (T.post times_q) (λ y. prod y q) p lead
-        → (result ≡ rem (power q e) p) × (result < lead) }
-{
-    let mut power: u32 = 1;
-    for i in (0..32 - u32::leading_zeros(e)).rev() {
-        power = square(power);
-        if (e >> i) % 2 == 1 {
-            power = times_q(power);
-        }
-    }
-    power
-}
-
-// The same three for a p and a leading term that are given apart, as docs/PROMISES.md and docs/CONFORMANCE.md name them.
-pub fn times_x(y: u32, p: u32, lead: u32) -> u32
-    requires modulus { Modulus p lead }
-    requires y_lt_lead { y < lead }
-    ensures { (result ≡ rem (2 * y) p) × (result < lead) }
-{
-    Residues { p, lead }.times_x(y)
-}
-
-pub fn mul_mod(a: u32, b: u32, p: u32, lead: u32) -> u32
-    requires modulus { Modulus p lead }
-    requires b_lt_lead { b < lead }
-    ensures { (result ≡ rem (prod a b) p) × (result < lead) }
-{
-    Residues { p, lead }.product(a, b)
-}
-
-pub fn pow_mod(q: u32, e: u32, p: u32, lead: u32) -> u32
-    requires modulus { Modulus p lead }
-    requires q_lt_lead { q < lead }
-    ensures { (result ≡ rem (power q e) p) × (result < lead) }
-{
-    Residues { p, lead }.power(q, e)
 }
