@@ -1,21 +1,13 @@
--- What the fold over the vectors gives. Assumes nothing.
-use Rattle.std.proofs.Common.{◌≡◌, refl, List, ℕ, zero, suc, ◌≤◌, min, bit_xor, get_or, length, take, add-one, arith}
-use Rattle.std.specs.List.{fold}
-use Rattle.std.proofs.Math.Seq.{take-length}
-use Rattle.std.proofs.lemmas.List.Sums.{fold_more}
+-- One vector more that reduces. Assumes nothing.
+use Rattle.std.proofs.Common.{◌≡◌, refl, List, ℕ, ◌+◌, min, bit_xor, get_or, add-one}
 use Rattle.polynomial_laws.specs.Sum.{⊕_def}
 use Rattle.net_laws.specs.Reduction.{reduce, reduce_by}
 use Rattle.digit_rows.specs.Basis.{newest}
 
--- One vector that reduces, as the code has it.
-abbrev pub lower : ℕ → ℕ → ℕ
-lower v x = min v (bit_xor v x)
+pub reduce_start : (b : List ℕ) (r : ℕ) → r ≡ reduce (newest b 0) r
+unfolding reduce newest
+reduce_start b r = refl
 
-folded : (b : List ℕ) (r i : ℕ) → i ≤ length b → fold lower r (take i b) ≡ reduce (newest b i) r
+pub reduce_more : (b : List ℕ) (i r v w : ℕ) → v ≡ reduce (newest b i) r → w ≡ min v (bit_xor v (get_or b i 0)) → w ≡ reduce (newest b (i + 1)) r
 unfolding reduce reduce_by newest
-folded b r zero fits = refl
-folded b r (suc i) fits =
-    rw (← add-one i, fold_more lower r b i 0 (omega arith), folded b r i (omega arith), ⊕_def (reduce (newest b i) r) (get_or b i 0))
-
-pub fold_reduced : (b : List ℕ) (r : ℕ) → fold lower r b ≡ reduce (newest b (length b)) r
-fold_reduced b r = rw (take-length b) at (folded b r (length b) (omega arith))
+reduce_more b i r v w before lower = rw (add-one i, ← before, ⊕_def v (get_or b i 0)) lower

@@ -10,7 +10,12 @@ pub const BASIS_ROOM: usize = 32;
 pub fn reduce(basis: &[u32], digits: u32) -> u32
     ensures { result ≡ reduceAll (newest basis.now (length basis.now)) digits }
 {
-    basis
-        .iter()
-        .fold(digits, |v, vector| u32::min(v, v ^ *vector))
+    let mut v = digits;
+    for i in 0..basis.len() {
+        let sum = v ^ basis[i];
+        if sum < v {
+            v = sum;
+        }
+    }
+    v
 }

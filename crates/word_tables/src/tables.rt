@@ -36,18 +36,20 @@ impl Tables {
         ensures { Filled m p q unit size result.next result.word }
     {
         let residues = Residues::modulo(m, p);
-        let mut next = [0u32; SIZE];
-        let mut word = [0u32; SIZE];
+        let mut tables = Tables {
+            next: [0; SIZE],
+            word: [0; SIZE],
+        };
         let mut n: usize = 1;
         while n < SIZE {
             let y = n as u32 * unit;
             if y >= residues.lead {
                 break;
             }
-            spread(&mut next, 0, n, residues.product(q, y));
-            spread(&mut word, 0, n, word::word_of(m, p, y));
+            spread(&mut tables.next, 0, n, residues.product(q, y));
+            spread(&mut tables.word, 0, n, word::word_of(m, p, y));
             n *= 2;
         }
-        Tables { next, word }
+        tables
     }
 }

@@ -5,7 +5,7 @@ use Rattle.word_tables.specs.Filling.{Filling}
 use Rattle.word_tables.proofs.tables.Tables.of.Given as goal
 
 abbrev pub invariant-loop-n : goal.invariant-loop-n
-invariant-loop-n l = Filling l.m l.p l.q l.unit l.n l.next l.word
+invariant-loop-n l = Filling l.m l.p l.q l.unit l.n l.tables.next l.tables.word
 
 abbrev pub decreases-loop-n : goal.decreases-loop-n
 decreases-loop-n l = size - l.n
