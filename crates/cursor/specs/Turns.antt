@@ -1,4 +1,4 @@
--- Reading a list to its end, `while more { portion = next(c, ..); c = portion.next; more = portion.more }`: what was handed out and what is left
+-- Reading a list to its end, `loop { portion = next(c, ..); if !portion.more { return } c = portion.next }`: what was handed out and what is left
 -- are together the ranked list, at the start and after each turn; each turn leaves less; and at the end all was handed out. Assumes nothing.
 use Rattle.std.specs.Prelude.{◌≡◌, refl, Bool, true, false, cond, List, [], ◌∷◌, ◌++◌, ℕ, suc, ◌*◌, ◌/◌, ◌<◌, ◌≤◌, length, take}
 use Rattle.std.proofs.Common.{sym, ap, ap₂, ◌∙◌, append_assoc, append-nil, le-div_iff_mul-le, div-mul-le_self, mul-le-mul_right, arith, length-drop, take-append-drop, length-take-le, ltb-true, ltb-false}
