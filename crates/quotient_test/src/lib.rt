@@ -16,5 +16,6 @@ pub fn test_quotients(degree: u32, p: u32, q: u32) -> Result<QuotientDegrees, Re
     if !verdicts::is_well_formed(degree, p, q) {
         return Err(Refusal::IllFormedPair);
     }
-    Ok(quotient_degrees::quotient_degrees(p, q))
+    let degrees = quotient_degrees::quotient_degrees(p, q);
+    Ok(degrees)
 }

@@ -34,11 +34,11 @@ pub returns-then-not-is_well_formed : goal.returns-then-not-is_well_formed
 unfolding quotient_test testing
 returns-then-not-is_well_formed c = sym (ill_formed Err _ _ _ _ (lawful (goal.at.returns-then-not-is_well_formed c).Else-not-is_lawful_degree) (sym c.is_well_formed.ensures ∙ c.if-not-is_well_formed.true))
 
-pub quotient_degrees-requires : goal.quotient_degrees-requires
-quotient_degrees-requires c =
+pub quotient_degrees-degrees-requires : goal.quotient_degrees-degrees-requires
+quotient_degrees-degrees-requires c =
     let pair = (well_formed_is _ _ _).0 (is_well_formed c) in record { q_nonzero = omega arith; q_le_p = omega arith }
 
 pub returns : goal.returns
 returns c =
-    rw (c.quotient_degrees.ensures.0, c.quotient_degrees.ensures.1)
+    rw (c.quotient_degrees-degrees.ensures.0, c.quotient_degrees-degrees.ensures.1)
     (sym (tested _ _ _ (lawful (goal.at.returns c).Else-not-is_lawful_degree) (is_well_formed (goal.at.returns c).Else-not-is_well_formed)))

@@ -1,5 +1,5 @@
 -- `decimal_text::write::write_decimal` writes the digits that std prints. Assumes nothing.
-use Rattle.std.proofs.Common.{◌≡◌, ◌∙◌}
+use Rattle.std.proofs.Common.{◌≡◌, ◌∙◌, ap, length, arith}
 use Rattle.definitions.specs.Listing.{decimal}
 use Rattle.decimal_text.specs.Decimal.{printed}
 use Rattle.decimal_text.proofs.write.write_decimal.Goals as goal
@@ -12,4 +12,4 @@ write_text-requires c =
 pub returns : goal.returns
 returns c =
     let text : c.as_bytes.result.now ≡ decimal c.args.n = c.as_bytes.ensures.value ∙ c.format.ensures.text ∙ printed c.args.n c.ranges.n.fits in
-    record { value = rw text at c.write_text.ensures.value; out_after = rw text at c.write_text.ensures.out_after }
+    record { value = omega (arith, ap length text, c.write_text.ensures.value); out_after = rw text at c.write_text.ensures.out_after }

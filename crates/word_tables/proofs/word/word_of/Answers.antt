@@ -8,13 +8,13 @@ pub loop-init : goal.loop-init
 loop-init c = divided_start _ _ c.requires.has_degree _ c.requires.y_bound
 
 pub overflow_mul-word : goal.overflow_mul-word
-overflow_mul-word c = omega (arith, next_fits _ _ c.requires.has_degree _ c.requires.y_bound c.loop.invariant c.loop-test.true)
+overflow_mul-word c = omega (arith, next_fits _ _ c.requires.has_degree _ c.requires.y_bound c.loop.invariant (omega (arith, c.loop-test.true)))
 
 pub overflow_mul-word-in-loop : goal.overflow_mul-word-in-loop
 overflow_mul-word-in-loop c = omega (arith, lead_high c.requires.lawful_degree, rest_lt _ _ c.requires.has_degree _ c.requires.y_bound c.loop.invariant)
 
 pub overflow_add-word : goal.overflow_add-word
-overflow_add-word c = record { fits = next_fits _ _ c.requires.has_degree _ c.requires.y_bound c.loop.invariant c.loop-test.true }
+overflow_add-word c = record { fits = next_fits _ _ c.requires.has_degree _ c.requires.y_bound c.loop.invariant (omega (arith, c.loop-test.true)) }
 
 pub times_x-rest-requires : goal.times_x-rest-requires
 times_x-rest-requires c =
@@ -24,7 +24,7 @@ times_x-rest-requires c =
 pub loop-preserved : goal.loop-preserved
 loop-preserved c =
     let pre = c.requires in
-    divided_more _ _ pre.has_degree _ pre.y_bound c.loop.invariant c.loop-test.true (rw c.modulo-residues.ensures.0 at c.times_x-rest.ensures.0)
+    divided_more _ _ pre.has_degree _ pre.y_bound c.loop.invariant (omega (arith, c.loop-test.true)) (rw c.modulo-residues.ensures.0 at c.times_x-rest.ensures.0)
 
 pub returns : goal.returns
 returns c =
