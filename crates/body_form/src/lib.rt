@@ -16,7 +16,7 @@ pub fn row_form(s: &[u8], form: BodyForm, at: usize) -> bool
     let width = form.number_size();
     let values = at + sizes::NUMBERS * width;
     bytes::numbers_below(s, at, sizes::NUMBERS, width, form.lead())
-        && bytes::numbers_below(s, values, form.value_count(), 1, form.degree + 1)
+        && bytes::bytes_below(s, values, form.value_count(), form.degree + 1)
 }
 
 // The rows of the body at `at`.

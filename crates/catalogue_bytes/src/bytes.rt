@@ -17,8 +17,8 @@ pub fn number(s: &[u8], at: usize, width: usize) -> u32
     ensures { (result ≡ number_at width s.now at) × (result < 2 ^ (8 * width)) }
 {
     let mut n: u32 = 0;
-    for b in &s[at..at + width] {
-        n = n * 256 + u32::from(*b);
+    for k in 0..width {
+        n = n * 256 + byte(s, at + k);
     }
     n
 }
@@ -29,4 +29,12 @@ pub fn numbers_below(s: &[u8], at: usize, n: usize, width: usize, bound: u32) ->
     ensures { result ≡ every n (λ (k : ℕ). ltb (number_at width s.now (at + k * width)) bound) }
 {
     (0..n).all(|k| number(s, at + k * width, width) < bound)
+}
+
+// Each of the n bytes at `at` is below `bound`.
+pub fn bytes_below(s: &[u8], at: usize, n: usize, bound: u32) -> bool
+    requires { at + n ≤ length s.now }
+    ensures { result ≡ every n (λ (k : ℕ). ltb (byte_at s.now (at + k)) bound) }
+{
+    (0..n).all(|k| byte(s, at + k) < bound)
 }

@@ -45,8 +45,10 @@ fn write_many(m: u32, p: u32, q: u32, first: u32, out: &mut [u32])
     ensures { out.new ≡ words p q first (length out.old) }
 {
     let mut y = word::state_at(m, p, q, first);
-    let lower = Tables::of(m, p, q, tables::LOWER_UNIT);
-    let upper = Tables::of(m, p, q, tables::UPPER_UNIT);
+    let mut lower = Tables::empty();
+    lower.fill(m, p, q, tables::LOWER_UNIT);
+    let mut upper = Tables::empty();
+    upper.fill(m, p, q, tables::UPPER_UNIT);
     for word in out {
         let low = (y % tables::UPPER_UNIT) as usize;
         let high = (y / tables::UPPER_UNIT) as usize;

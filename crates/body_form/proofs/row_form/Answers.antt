@@ -1,6 +1,6 @@
 -- `body_form::row_form` meets its contract: the numbers decide where they fail, else the t-values do. Assumes nothing.
 use Rattle.std.proofs.Common.{◌≡◌, ℕ, ◌+◌, ◌*◌, sym, ap, ◌∙◌}
-use Rattle.catalogue_laws.specs.Form.{numbers_form, numbers_form_is, values_form_by_numbers, row_stop, row_values}
+use Rattle.catalogue_laws.specs.Form.{numbers_form, numbers_form_is, values_form_is, row_stop, row_values}
 use Rattle.body_form.proofs.row_form.Goals as goal
 use Rattle.body_form.proofs.row_form.Goals.{After-numbers_below}
 
@@ -16,8 +16,8 @@ returns-then-numbers_below c =
     let a = c.args in
     let tested = sym (numbers_test (goal.at.returns-then-numbers_below c).After-numbers_below) ∙ c.if-numbers_below.true in
     let place = ap (λ (w : ℕ). a.at + 3 * w) c.number_size-width.ensures.0 in
-    c.numbers_below-then-numbers_below.ensures
-    ∙ values_form_by_numbers a.form.degree a.form.top a.s.now a.at _ c.value_count.result place c.value_count.ensures
+    c.bytes_below.ensures
+    ∙ values_form_is a.form.degree a.form.top a.s.now a.at _ c.value_count.result place c.value_count.ensures
     ∙ sym (row_values a.form.degree a.form.top a.s.now a.at tested)
 
 pub returns-else-numbers_below : goal.returns-else-numbers_below

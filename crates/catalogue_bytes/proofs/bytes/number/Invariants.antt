@@ -4,5 +4,5 @@ use Prim.Native.Nat.{◌*◌, ◌^◌, ◌<◌}
 use Rattle.definitions.specs.Catalogue.{number_at}
 use Rattle.catalogue_bytes.proofs.bytes.number.Given as goal
 
-abbrev pub invariant-loop-b : goal.invariant-loop-b
-invariant-loop-b l = (l.n ≡ number_at l.b-index l.s l.at) × (l.n < 2 ^ (8 * l.b-index))
+abbrev pub invariant-loop-k : goal.invariant-loop-k
+invariant-loop-k l = (l.n ≡ number_at l.k l.s l.at) × (l.n < 2 ^ (8 * l.k))

@@ -1,13 +1,13 @@
--- `word_tables::tables::Tables::of` meets its contract. A unit multiple that is no residue ends it: none of the entries behind is asked for. Assumes
+-- `word_tables::tables::Tables::fill` meets its contract. A unit multiple that is no residue ends it: none of the entries behind is asked for. Assumes
 -- nothing.
-use mathlib.Core.Path.{refl}
-use lib.ListN.{replicate}
-use Rattle.word_tables.specs.Tables.{size}
+use Rattle.std.proofs.Common.{rules}
 use Rattle.word_tables.specs.Filling.{filling_start, filling_more}
-use Rattle.word_tables.proofs.tables.Tables.of.Goals as goal
+use Rattle.word_tables.proofs.tables.Tables.fill.Goals as goal
 
 pub loop-n-init : goal.loop-n-init
-loop-n-init c = filling_start c.requires.well_formed.degree_p _ _ (replicate size 0) (replicate size 0) refl refl
+loop-n-init c =
+    let now = c.args.self.now in
+    filling_start c.requires.well_formed.degree_p _ _ now.next now.word (search rules) (search rules)
 
 pub loop-n-preserved : goal.loop-n-preserved
 loop-n-preserved c =
