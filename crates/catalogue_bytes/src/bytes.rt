@@ -31,10 +31,15 @@ pub fn numbers_below(s: &[u8], at: usize, n: usize, width: usize, bound: u32) ->
     (0..n).all(|k| number(s, at + k * width, width) < bound)
 }
 
-// Each of the n bytes at `at` is below `bound`.
+// Each of the n bytes at `at` is below `bound`. A loop, since `all` over so short a range costs more than the bytes that it asks of.
 pub fn bytes_below(s: &[u8], at: usize, n: usize, bound: u32) -> bool
     requires { at + n ≤ length s.now }
     ensures { result ≡ every n (λ (k : ℕ). ltb (byte_at s.now (at + k)) bound) }
 {
-    (0..n).all(|k| byte(s, at + k) < bound)
+    for k in 0..n {
+        if byte(s, at + k) >= bound {
+            return false;
+        }
+    }
+    true
 }

@@ -48,7 +48,8 @@ pub fn image(table: &[u32; ENTRIES], a: u32) -> u32
 }
 
 // The table from the image of 1 on, block by block as far as residues have digits; `next` gives the image of the next digit, from that of a digit. The
-// entries behind are never asked for but the first of a block, which is 0.
+// entries behind are never asked for but the first of a block, which is 0. It is not put into its callers, which would then hold the table twice.
+#[inline(never)]
 fn fill<N: Fn(u32) -> u32>(residues: Residues, first: u32, next: N) -> [u32; ENTRIES]
     requires lead_bound { residues.lead ≤ 2 ^ largest_degree }
     requires first_lt_lead { first < residues.lead }

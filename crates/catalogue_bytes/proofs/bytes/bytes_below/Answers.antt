@@ -1,14 +1,21 @@
--- `catalogue_bytes::bytes::bytes_below` meets its contract: `all` asks of each byte below n. Assumes nothing.
-use Rattle.std.proofs.Common.{rules, ℕ, ◌+◌, ltb, refl, arith, ◌∙◌}
-use Rattle.std.proofs.lemmas.Iterator.{YieldsList-from_range}
-use Rattle.std.proofs.lemmas.Iterator.Search.{all_from_yields_List}
+-- `catalogue_bytes::bytes::bytes_below` meets its contract: one byte that fails decides. Assumes nothing.
+use Rattle.std.proofs.Common.{sym, ℕ, ◌+◌, ltb, arith}
+use borrow.Author.Tests.{lt-ltb, le-ltb}
 use Rattle.definitions.specs.Catalogue.{byte_at}
-use Rattle.number_laws.specs.Ranges.{every_range}
+use Rattle.number_laws.specs.Every.{every_more, every_none, every_fails}
 use Rattle.catalogue_bytes.proofs.bytes.bytes_below.Goals as goal
 
-pub returns : goal.returns
-returns c =
+pub loop-k-init : goal.loop-k-init
+loop-k-init c = every_none 0 _ (omega arith)
+
+pub returns-then-byte-bound : goal.returns-then-byte-bound
+returns-then-byte-bound c =
     let a = c.args in
-    let below = λ (k : ℕ). ltb (byte_at a.s.now (a.at + k)) a.bound in
-    all_from_yields_List below _ _ _ c.all.ensures.ran (YieldsList-from_range 0 a.n a.n refl (omega arith)) (λ k b q called. search (rules))
-    ∙ every_range a.n below
+    let k = c.loop-k.k in
+    sym (every_fails a.n (λ (i : ℕ). ltb (byte_at a.s.now (a.at + i)) a.bound) k (omega arith) (le-ltb (byte_at a.s.now (a.at + k)) _ (omega (arith, c.byte.ensures.0))))
+
+pub loop-k-preserved : goal.loop-k-preserved
+loop-k-preserved c =
+    let a = c.args in
+    let k = c.loop-k.k in
+    every_more k (λ (i : ℕ). ltb (byte_at a.s.now (a.at + i)) a.bound) c.loop-k.invariant (lt-ltb (byte_at a.s.now (a.at + k)) _ (omega (arith, c.byte.ensures.0)))

@@ -1,5 +1,5 @@
 -- `catalogue_bytes::bytes::number` meets its contract. Assumes nothing.
-use Rattle.std.proofs.Common.{◌≡◌, ℕ, ◌+◌, ◌*◌, sym, ap₂, ◌∙◌, arith}
+use Rattle.std.proofs.Common.{ℕ, ◌+◌, ◌*◌, sym, ap₂, ◌∙◌, arith}
 use Rattle.catalogue_laws.specs.Form.{number_none, number_more, number_below, number_room}
 use Rattle.catalogue_bytes.proofs.bytes.number.Goals as goal
 
