@@ -38,7 +38,9 @@ fn write_few(m: u32, p: u32, q: u32, first: u32, out: &mut [u32])
     }
 }
 
-// The same by tables: two entries give the word, two the next state.
+// The same by tables: two entries give the word, two the next state. It is not put into its caller, so that the tables are not on the stack while the pair
+// is judged.
+#[inline(never)]
 fn write_many(m: u32, p: u32, q: u32, first: u32, out: &mut [u32])
     requires lawful_degree { LawfulDegree m }
     requires well_formed { WellFormed m p q }
