@@ -1,5 +1,5 @@
--- `<` of slices is the order of keys, and `<` of pairs of slices that of the joined keys, where the first ones are equally long. Assumes nothing.
-use Rattle.std.proofs.Common.{◌≡◌, refl, ap, ap₂, ◌∙◌, ℕ, ◌-◌, Bool, Option, Some, List, [], ◌∷◌, ◌++◌, length, take, drop, arith, length-drop}
+-- `<` of slices is the order of keys, and `<` of a row's t-values, p and q, one behind the other, that of rows. Assumes nothing.
+use Rattle.std.proofs.Common.{◌≡◌, refl, sym, ap, ap₂, ◌∙◌, ℕ, ◌-◌, ◌<◌, Bool, Option, None, Some, List, [], ◌∷◌, ◌++◌, length, take, drop, get_or, arith, length-drop}
 use Rattle.std.proofs.Math.Seq.{take_all}
 use Rattle.std.specs.declared.cmp.Ordering.{Ordering}
 use Rattle.std.specs.declared.cmp.Ordering.TheVariants.{Less, Equal, Greater}
@@ -18,19 +18,39 @@ unfolding before
 lt_before = same_from_slice_cmp_tested nat_cmp is_lt before refl (λ _ _. refl) (λ _ _. refl) (λ x y xs ys o h. grind (arith, nat_tests))
 
 -- One comparison behind another.
-then_then : (o : Ordering) (p q : Option Ordering)
-    → partial_ordering_then (partial_ordering_then (Some o) p) q ≡ partial_ordering_then (Some o) (partial_ordering_then p q)
-then_then Less p q = refl
-then_then Equal p q = refl
-then_then Greater p q = refl
+then_then : (o p q : Option Ordering)
+    → partial_ordering_then (partial_ordering_then o p) q ≡ partial_ordering_then o (partial_ordering_then p q)
+then_then None p q = refl
+then_then (Some Less) p q = refl
+then_then (Some Equal) p q = refl
+then_then (Some Greater) p q = refl
+
+then_equal : (o : Ordering) → partial_ordering_then (Some o) (Some Equal) ≡ Some o
+then_equal Less = refl
+then_equal Equal = refl
+then_equal Greater = refl
 
 then_append : (a b x y : List ℕ) → length a ≡ length b → partial_ordering_then (numbers_cmp a b) (numbers_cmp x y) ≡ numbers_cmp (a ++ x) (b ++ y)
 then_append [] [] x y e = refl
 then_append [] (n ∷ b) x y e = absurd (omega arith)
 then_append (m ∷ a) [] x y e = absurd (omega arith)
 then_append (m ∷ a) (n ∷ b) x y e =
-    then_then (nat_cmp m n) (numbers_cmp a b) (numbers_cmp x y)
+    then_then (Some (nat_cmp m n)) (numbers_cmp a b) (numbers_cmp x y)
     ∙ ap (partial_ordering_then (Some (nat_cmp m n))) (then_append a b x y (omega arith))
+
+-- p of one row against p of another, and q against q.
+abbrev p_cmp : List ℕ → List ℕ → Option Ordering
+p_cmp a b = Some (nat_cmp (get_or a 0 0) (get_or b 0 0))
+
+abbrev q_cmp : List ℕ → List ℕ → Option Ordering
+q_cmp a b = Some (nat_cmp (get_or a 1 0) (get_or b 1 0))
+
+pairs_are : (a b : List ℕ) → 1 < length a → 1 < length b → partial_ordering_then (p_cmp a b) (q_cmp a b) ≡ numbers_cmp (take 2 a) (take 2 b)
+pairs_are (p ∷ q ∷ a) (u ∷ v ∷ b) h k = sym (ap (partial_ordering_then (Some (nat_cmp p u))) (then_equal (nat_cmp q v)))
+pairs_are [] b h k = absurd (omega (arith, h))
+pairs_are (p ∷ []) b h k = absurd (omega (arith, h))
+pairs_are (p ∷ q ∷ a) [] h k = absurd (omega (arith, k))
+pairs_are (p ∷ q ∷ a) (u ∷ []) h k = absurd (omega (arith, k))
 
 -- The numbers of a row from t(3) on, as a slice.
 abbrev ranks : List ℕ → List ℕ
@@ -43,10 +63,14 @@ module _ (a b : List ℕ) {r : Bool} where
   pub ranks_lt : r ≡ is_some_and is_lt (numbers_cmp (ranks a) (ranks b)) → r ≡ before (drop ranks_from a) (drop ranks_from b)
   ranks_lt h = lt_before (ranks a) (ranks b) r h ∙ ap₂ before (ranks_are a) (ranks_are b)
 
-  pub rows_lt : length a ≡ length b → r ≡ is_some_and is_lt (partial_ordering_then (numbers_cmp (ranks a) (ranks b)) (numbers_cmp (take 2 a) (take 2 b)))
+  pub rows_lt : ranks_from < length a → length a ≡ length b
+      → r ≡ is_some_and is_lt (partial_ordering_then (partial_ordering_then (numbers_cmp (ranks a) (ranks b)) (p_cmp a b)) (q_cmp a b))
       → r ≡ before (row_key a) (row_key b)
   unfolding row_key
-  rows_lt e h =
+  rows_lt s e h =
       let long : length (ranks a) ≡ length (ranks b) = rw (ranks_are a, ranks_are b, length-drop ranks_from a, length-drop ranks_from b, e) in
-      lt_before (ranks a ++ take 2 a) (ranks b ++ take 2 b) r (h ∙ ap (is_some_and is_lt) (then_append (ranks a) (ranks b) (take 2 a) (take 2 b) long))
+      let split = then_then (numbers_cmp (ranks a) (ranks b)) (p_cmp a b) (q_cmp a b) in
+      let pair = pairs_are a b (omega (arith, s)) (omega (arith, s, e)) in
+      let by_key = split ∙ ap (partial_ordering_then (numbers_cmp (ranks a) (ranks b))) pair ∙ then_append (ranks a) (ranks b) (take 2 a) (take 2 b) long in
+      lt_before (ranks a ++ take 2 a) (ranks b ++ take 2 b) r (h ∙ ap (is_some_and is_lt) by_key)
       ∙ ap₂ (λ (x y : List ℕ). before (x ++ take 2 a) (y ++ take 2 b)) (ranks_are a) (ranks_are b)

@@ -5,7 +5,7 @@ ghost use Rattle.std.specs.Prelude.{◌≡◌, ◌<◌, ◌≤◌, length, drop}
 ghost use Rattle.definitions.specs.Pages.{before, after, above};
 ghost use Rattle.definitions.specs.Ranking.{ranks_from, row_key};
 
-use row_places::{RANKS_FROM, STEP};
+use row_places::RANKS_FROM;
 
 // Whether the t-values of one row stand before those of another; both may be the fronts of rows.
 pub fn ranks_before(a: &[u32], b: &[u32]) -> bool
@@ -20,7 +20,7 @@ pub fn stands_before(a: &[u32], b: &[u32]) -> bool
     requires { (ranks_from < length a.now) × (length a.now ≡ length b.now) }
     ensures { result ≡ before (row_key a.now) (row_key b.now) }
 {
-    (&a[RANKS_FROM..], &a[..STEP]) < (&b[RANKS_FROM..], &b[..STEP])
+    (&a[RANKS_FROM..], a[0], a[1]) < (&b[RANKS_FROM..], b[0], b[1])
 }
 
 // Whether a row stands after another, so that a page after that one may hold it.

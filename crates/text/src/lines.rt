@@ -20,7 +20,7 @@ fn put_texts(out: &mut [u8], at: usize, texts: &[&[u8]]) -> usize
     for text in texts {
         end = write_text(out, end, text);
     }
-    end
+    at + len
 }
 
 // A line of a word and a number.

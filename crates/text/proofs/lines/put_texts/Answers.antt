@@ -63,6 +63,6 @@ returns c =
     let a = c.args in
     let here = c.loop-text in
     let whole : take here.text-index a.texts.now ≡ a.texts.now = take_all here.text-index a.texts.now c.loop-text-test.false in
-    let all = put a.at (joined a.texts.now) a.out.now (room (goal.at.returns c).Else-not-fits)
-    (rw whole at here.invariant.length_so_far) (rw whole at here.invariant.written) in
+    let bytes = counted (goal.at.returns c).After-fits in
+    let all = put a.at (joined a.texts.now) a.out.now (room (goal.at.returns c).Else-not-fits) (omega (arith, bytes)) (rw whole at here.invariant.written) in
     record { value = all.0; out_after = all.1 }
