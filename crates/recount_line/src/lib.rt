@@ -37,6 +37,9 @@ fn put_pair(out: &mut [u8], at: usize, degree: u32, p: u32, q: u32, dimension: u
             let quick = net::t_value(degree, p, q, dimension).unwrap();
             engines_line::put_both(out, at, quick, count)
         }
-        Err(refusal) => list_lines::put_refused(out, at, answers::refusal_number(refusal)),
+        Err(refusal) => {
+            let number = answers::refusal_number(refusal);
+            list_lines::put_refused(out, at, number)
+        }
     }
 }

@@ -24,4 +24,4 @@ returns-in-Ok c =
 pub returns-in-Err : goal.returns-in-Err
 returns-in-Err c =
     let text = pair_refused _ _ _ _ (sym c.count_t_value.ensures ∙ c.in-Err.is) in
-    record { value = rw (text, ← c.refusal_number.ensures) c.put_refused.ensures.value; out_after = rw (text, ← c.refusal_number.ensures) c.put_refused.ensures.out_after }
+    record { value = rw (text, ← c.refusal_number-number.ensures) c.put_refused.ensures.value; out_after = rw (text, ← c.refusal_number-number.ensures) c.put_refused.ensures.out_after }

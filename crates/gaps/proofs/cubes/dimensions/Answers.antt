@@ -1,8 +1,7 @@
 -- `cubes::dimensions` meets its contract: before each turn the digit rows of the coordinates up to `last` are free together, and the basis begins
 -- with their vectors. Assumes nothing.
-use Prim.Native.Nat.{◌+◌, ◌/◌}
 use native.Mathlib.Omega.{arith}
-use Rattle.std.proofs.Common.{◌≡◌, rules}
+use Rattle.std.proofs.Common.{◌∙◌, rules}
 use Rattle.net_laws.specs.Point.{digit_row}
 use Rattle.gaps.proofs.TakenLaws.{most_least, taken_start, dimensions_are}
 use Rattle.gaps.proofs.cubes.dimensions.Goals as goal
@@ -19,6 +18,6 @@ returns-then-not-take_coordinate c =
 pub returns : goal.returns
 returns c =
     let pre = c.requires in
-    let last : c.loop-last.last + 1 ≡ c.args.degree / c.args.digits = omega (arith, most_least pre.between) in
-    let found = dimensions_are pre.lawful_degree.1 c.args.q pre.between (omega arith) c.loop-last.invariant (λ less. absurd (omega arith)) in
-    rw last at found
+    let least = most_least pre.between in
+    let found = dimensions_are pre.lawful_degree.1 c.args.q pre.between (omega (arith, least)) c.loop-last.invariant (λ less. absurd (omega (arith, least))) in
+    omega (arith, least) ∙ found
