@@ -1,5 +1,6 @@
--- `<` of slices is the order of keys, and `<` of a row's t-values, p and q, one behind the other, that of rows. Assumes nothing.
-use Rattle.std.proofs.Common.{◌≡◌, refl, sym, ap, ap₂, ◌∙◌, ℕ, ◌-◌, ◌<◌, Bool, Option, None, Some, List, [], ◌∷◌, ◌++◌, length, take, drop, get_or, arith, length-drop}
+-- `<` of slices is the order of keys; `<` of a row's t-values and its pair, one behind the other, is that of rows, and so with p and q apart. Assumes
+-- nothing.
+use Rattle.std.proofs.Common.{◌≡◌, refl, sym, ap, ap₂, ◌∙◌, ℕ, ◌-◌, Bool, Option, None, Some, List, [], ◌∷◌, ◌++◌, length, take, drop, get_or, arith, length-drop}
 use Rattle.std.proofs.Math.Seq.{take_all}
 use Rattle.std.specs.declared.cmp.Ordering.{Ordering}
 use Rattle.std.specs.declared.cmp.Ordering.TheVariants.{Less, Equal, Greater}
@@ -45,12 +46,15 @@ p_cmp a b = Some (nat_cmp (get_or a 0 0) (get_or b 0 0))
 abbrev q_cmp : List ℕ → List ℕ → Option Ordering
 q_cmp a b = Some (nat_cmp (get_or a 1 0) (get_or b 1 0))
 
-pairs_are : (a b : List ℕ) → 1 < length a → 1 < length b → partial_ordering_then (p_cmp a b) (q_cmp a b) ≡ numbers_cmp (take 2 a) (take 2 b)
-pairs_are (p ∷ q ∷ a) (u ∷ v ∷ b) h k = sym (ap (partial_ordering_then (Some (nat_cmp p u))) (then_equal (nat_cmp q v)))
-pairs_are [] b h k = absurd (omega (arith, h))
-pairs_are (p ∷ []) b h k = absurd (omega (arith, h))
-pairs_are (p ∷ q ∷ a) [] h k = absurd (omega (arith, k))
-pairs_are (p ∷ q ∷ a) (u ∷ []) h k = absurd (omega (arith, k))
+pairs_are : (a b : List ℕ) → length a ≡ length b → partial_ordering_then (p_cmp a b) (q_cmp a b) ≡ numbers_cmp (take 2 a) (take 2 b)
+pairs_are [] [] e = refl
+pairs_are (p ∷ []) (u ∷ []) e = refl
+pairs_are (p ∷ q ∷ a) (u ∷ v ∷ b) e = sym (ap (partial_ordering_then (Some (nat_cmp p u))) (then_equal (nat_cmp q v)))
+pairs_are [] (u ∷ b) e = absurd (omega arith)
+pairs_are (p ∷ []) [] e = absurd (omega arith)
+pairs_are (p ∷ []) (u ∷ v ∷ b) e = absurd (omega arith)
+pairs_are (p ∷ q ∷ a) [] e = absurd (omega arith)
+pairs_are (p ∷ q ∷ a) (u ∷ []) e = absurd (omega arith)
 
 -- The numbers of a row from t(3) on, as a slice.
 abbrev ranks : List ℕ → List ℕ
@@ -63,14 +67,18 @@ module _ (a b : List ℕ) {r : Bool} where
   pub ranks_lt : r ≡ is_some_and is_lt (numbers_cmp (ranks a) (ranks b)) → r ≡ before (drop ranks_from a) (drop ranks_from b)
   ranks_lt h = lt_before (ranks a) (ranks b) r h ∙ ap₂ before (ranks_are a) (ranks_are b)
 
-  pub rows_lt : ranks_from < length a → length a ≡ length b
-      → r ≡ is_some_and is_lt (partial_ordering_then (partial_ordering_then (numbers_cmp (ranks a) (ranks b)) (p_cmp a b)) (q_cmp a b))
+  pub rows_lt : length a ≡ length b → r ≡ is_some_and is_lt (partial_ordering_then (numbers_cmp (ranks a) (ranks b)) (numbers_cmp (take 2 a) (take 2 b)))
       → r ≡ before (row_key a) (row_key b)
   unfolding row_key
-  rows_lt s e h =
+  rows_lt e h =
       let long : length (ranks a) ≡ length (ranks b) = rw (ranks_are a, ranks_are b, length-drop ranks_from a, length-drop ranks_from b, e) in
-      let split = then_then (numbers_cmp (ranks a) (ranks b)) (p_cmp a b) (q_cmp a b) in
-      let pair = pairs_are a b (omega (arith, s)) (omega (arith, s, e)) in
-      let by_key = split ∙ ap (partial_ordering_then (numbers_cmp (ranks a) (ranks b))) pair ∙ then_append (ranks a) (ranks b) (take 2 a) (take 2 b) long in
-      lt_before (ranks a ++ take 2 a) (ranks b ++ take 2 b) r (h ∙ ap (is_some_and is_lt) by_key)
+      lt_before (ranks a ++ take 2 a) (ranks b ++ take 2 b) r (h ∙ ap (is_some_and is_lt) (then_append (ranks a) (ranks b) (take 2 a) (take 2 b) long))
       ∙ ap₂ (λ (x y : List ℕ). before (x ++ take 2 a) (y ++ take 2 b)) (ranks_are a) (ranks_are b)
+
+  -- The same of the tuple that the code compares.
+  pub tuples_lt : length a ≡ length b
+      → r ≡ is_some_and is_lt (partial_ordering_then (partial_ordering_then (numbers_cmp (ranks a) (ranks b)) (p_cmp a b)) (q_cmp a b))
+      → r ≡ before (row_key a) (row_key b)
+  tuples_lt e h =
+      let pair = ap (partial_ordering_then (numbers_cmp (ranks a) (ranks b))) (pairs_are a b e) in
+      rows_lt e (h ∙ ap (is_some_and is_lt) (then_then (numbers_cmp (ranks a) (ranks b)) (p_cmp a b) (q_cmp a b) ∙ pair))

@@ -3,4 +3,4 @@ use Rattle.row_order.proofs.RowLaws as laws
 use Rattle.row_order.proofs.stands_before.Goals as goal
 
 pub returns : goal.returns
-returns c = laws.rows_lt c.args.a.now c.args.b.now c.requires.0 c.requires.1 c.lt.ensures
+returns c = laws.tuples_lt c.args.a.now c.args.b.now c.requires.1 c.lt.ensures
